@@ -1,0 +1,17 @@
+-- `checks::alphabet`. Assumes nothing.
+use borrow.Author.Needs.{needs}
+use Rattle.words.proofs.Checks.{alphabet-none, alphabet-over, alphabet-done}
+use Rattle.corridor.proofs.checks.alphabet.Statement.{statement}
+use Rattle.corridor.proofs.checks.alphabet.Tie as tie
+
+returns : tie.Need-returns
+returns c = search (needs, alphabet-none)
+
+returns-2 : tie.Need-returns-2
+returns-2 c = search (needs, alphabet-over)
+
+returns-3 : tie.Need-returns-3
+returns-3 c = search (needs, alphabet-done)
+
+pub alphabet-spec : {M : Type 1} → statement M
+alphabet-spec = tie.close (tie.spec returns returns-2 returns-3)

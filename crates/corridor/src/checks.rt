@@ -1,0 +1,118 @@
+// The checks of what callers hand in, each written once.
+use crate::Answer;
+use rows::card_at;
+use words::ALPHABET;
+use words::CARD;
+use words::DONE;
+use words::FIRST_LETTER;
+use words::LETTERS;
+use words::LONG;
+use words::MISMATCH;
+ghost use mathlib.Core.Path.{_≡_};
+ghost use Rattle.words.specs.Numbers.{letter as letterOf, outside as outsideOf, named as namedOf, alphabet as alphabetOf, long as longOf, matching as matchingOf, cards as cardsOf};
+
+// The number n at place p, or done where p is 0.
+pub fn named(n: u8, p: usize) -> Answer
+    ensures { λ r. ⌜ (r .number, r .place) ≡ namedOf n p ⌝ }
+{
+    if p == 0 {
+        Answer {
+            number: DONE,
+            place: 0,
+        }
+    } else {
+        Answer {
+            number: n,
+            place: p,
+        }
+    }
+}
+
+// 1: A outside 1..26.
+pub fn alphabet(a: usize) -> Answer
+    ensures { λ r. ⌜ (r .number, r .place) ≡ alphabetOf a ⌝ }
+{
+    if a == 0 {
+        Answer {
+            number: ALPHABET,
+            place: 0,
+        }
+    } else if LETTERS < a {
+        Answer {
+            number: ALPHABET,
+            place: 0,
+        }
+    } else {
+        Answer {
+            number: DONE,
+            place: 0,
+        }
+    }
+}
+
+// 2: a length n over the limit.
+pub fn long(limit: usize, n: usize) -> Answer
+    ensures { λ r. ⌜ (r .number, r .place) ≡ longOf limit n ⌝ }
+{
+    if limit < n {
+        Answer {
+            number: LONG,
+            place: 0,
+        }
+    } else {
+        Answer {
+            number: DONE,
+            place: 0,
+        }
+    }
+}
+
+// 3: a lent slice of m entries that must have n.
+pub fn matching(n: usize, m: usize) -> Answer
+    ensures { λ r. ⌜ (r .number, r .place) ≡ matchingOf n m ⌝ }
+{
+    if m == n {
+        Answer {
+            number: DONE,
+            place: 0,
+        }
+    } else {
+        Answer {
+            number: MISMATCH,
+            place: 0,
+        }
+    }
+}
+
+// Whether c is one of the a letters.
+fn letter(a: usize, c: u8) -> bool
+    ensures { λ r. ⌜ r ≡ letterOf a c ⌝ }
+{
+    if c < FIRST_LETTER {
+        return false;
+    }
+    let k = (c - FIRST_LETTER) as usize;
+    if k < a { true } else { false }
+}
+
+// The first place whose card is outside the alphabet; 0 where there is none.
+fn outside(a: usize, row: &[u8]) -> usize
+    ensures { λ r. ⌜ r ≡ outsideOf a (now (row .entry)) ⌝ }
+{
+    let mut i = 0;
+    while i < row.len() {
+        if letter(a, card_at(row, i + 1)) {
+            i += 1;
+        } else {
+            return i + 1;
+        }
+    }
+    0
+}
+
+// 4: a card outside the alphabet, at its first place.
+pub fn cards(a: usize, row: &[u8]) -> Answer
+    ensures { λ r. ⌜ (r .number, r .place) ≡ cardsOf a (now (row .entry)) ⌝ }
+{
+    named(CARD, outside(a, row))
+}

@@ -1,0 +1,20 @@
+-- `listing::published`: the table in the code is the published list. Assumes nothing.
+use borrow.Author.Needs.{needs}
+use Rattle.words.proofs.Lists.{index-at}
+use Rattle.listing.proofs.published.Statement.{statement}
+use Rattle.listing.proofs.published.Tie as tie
+
+sub-result : tie.Need-sub-result
+sub-result c = search needs
+
+mul-result : tie.Need-mul-result
+mul-result c = search needs
+
+array-read-result : tie.Need-array-read-result
+array-read-result c = search needs
+
+returns : tie.Need-returns
+returns c = search (needs, index-at)
+
+pub published-spec : {M : Type 1} → statement M
+published-spec = tie.close (tie.spec sub-result mul-result array-read-result returns)

@@ -1,0 +1,4 @@
+pub mod Corridors
+pub mod Lists
+pub mod Checks
+pub mod Rows

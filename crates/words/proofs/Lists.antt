@@ -1,0 +1,238 @@
+-- Laws of tests, lists and places: membership, `any`, `every`, `keep`, `each`, the first and the greatest that passes. Assumes nothing.
+use mathlib.Core.Path.{_≡_, refl, sym, ap, subst, _∙_}
+use mathlib.Core.Bool.{Bool, true, false, cond, not}
+use mathlib.Core.Logic.{_⊎_, inl, inr, ⊎-elim}
+use mathlib.Core.List.{List, [], _∷_}
+use Prim.Native.Nat.{ℕ, zero, suc, _+_, _-_, _≤_, _<_}
+use native.Mathlib.Omega.{arith}
+use native.Mathlib.Numerals.{add-one}
+use lib.Dec.{ltb, eqb}
+use lib.ListN.{length, getD}
+use lib.Seq.{ext-getD}
+use borrow.Author.Tests.{ltb-true, ltb-false, eqb-true, eqb-false}
+use Rattle.words.specs.Lists.{both, each, any, every, keep, firstOf, greatest, run, places, falling, at}
+
+-- a test with its equation, to take apart
+pub which : (t : Bool) → (t ≡ true) ⊎ (t ≡ false)
+which true = inl refl
+which false = inr refl
+
+-- a choice taken apart, the choice first
+pub either : {A B C : Type 0} → A ⊎ B → (A → C) → (B → C) → C
+either s f g = ⊎-elim f g s
+
+pub same? : (a b : ℕ) → (a ≡ b) ⊎ (a ≡ b → ⊥)
+same? a b = either (which (eqb a b)) (λ t. inl (eqb-true a b t)) (λ f. inr (eqb-false a b f))
+
+pub not-both : {t : Bool} → t ≡ true → t ≡ false → ⊥
+not-both p q = let z : true ≡ false = sym p ∙ q in let n : _≡_ {A = ℕ} 0 1 = cc in omega arith
+
+pub both-true : (a b : Bool) → a ≡ true → b ≡ true → both a b ≡ true
+unfolding both
+both-true true b p q = q
+both-true false b p q = p
+
+pub both-left : (a b : Bool) → a ≡ false → both a b ≡ false
+unfolding both
+both-left true b p = absurd (not-both refl p)
+both-left false b p = refl
+
+pub both-right : (a b : Bool) → b ≡ false → both a b ≡ false
+unfolding both
+both-right true b p = p
+both-right false b p = refl
+
+pub both-out : (a b : Bool) → both a b ≡ true → (a ≡ true) × (b ≡ true)
+unfolding both
+both-out true b p = (refl, p)
+both-out false b p = absurd (not-both p refl)
+
+-- m is a member of the list
+pub data In (m : ℕ) : List ℕ → Type 0 where
+  here : {l : List ℕ} → In m (m ∷ l)
+  there : {x : ℕ} {l : List ℕ} → In m l → In m (x ∷ l)
+
+pub In-nil : {m : ℕ} → In m [] → ⊥
+In-nil = elim [ ]
+
+pub In-cons : {m x : ℕ} {l : List ℕ} → In m (x ∷ l) → (m ≡ x) ⊎ In m l
+In-cons here = inl refl
+In-cons (there i) = inr i
+
+pub In-here : {m x : ℕ} {l : List ℕ} → m ≡ x → In m (x ∷ l)
+In-here {m} {x} {l} p = subst (λ (y : ℕ). In m (y ∷ l)) p here
+
+pub In-each : {m : ℕ} {l : List ℕ} (f : ℕ → ℕ) → In m l → In (f m) (each f l)
+unfolding each
+In-each f here = here
+In-each f (there i) = there (In-each f i)
+
+-- a member of `each f l` is f of a member
+pub In-each-out : (f : ℕ → ℕ) (l : List ℕ) (x : ℕ) → In x (each f l) → (m : ℕ) × In m l × (f m ≡ x)
+unfolding each
+In-each-out f [] x i = absurd (In-nil i)
+In-each-out f (y ∷ l) x i = either (In-cons i) (λ e. (y, here, sym e)) (λ j. let (m, k, e) = In-each-out f l x j in (m, there k, e))
+
+module _ (p : ℕ → Bool) where
+  pub any-in : {m : ℕ} {l : List ℕ} → In m l → p m ≡ true → any p l ≡ true
+  unfolding any
+  any-in here h = rw h
+  any-in (there {x} {l} i) h = either (which (p x)) (λ t. rw t) (λ f. rw f (any-in i h))
+
+  pub any-none : (l : List ℕ) → ((m : ℕ) → In m l → p m ≡ false) → any p l ≡ false
+  unfolding any
+  any-none [] h = refl
+  any-none (x ∷ l) h = rw (h x here) (any-none l (λ m i. h m (there i)))
+
+  pub any-out : (l : List ℕ) → any p l ≡ true → (m : ℕ) × In m l × (p m ≡ true)
+  unfolding any
+  any-out [] h = absurd (not-both h refl)
+  any-out (x ∷ l) h = either (which (p x)) (λ t. (x, here, t)) (λ f. let (m, i, e) = any-out l (rw f at h) in (m, there i, e))
+
+  pub every-in : (l : List ℕ) → ((m : ℕ) → In m l → p m ≡ true) → every p l ≡ true
+  unfolding every
+  every-in [] h = refl
+  every-in (x ∷ l) h = rw (h x here) (every-in l (λ m i. h m (there i)))
+
+  pub every-out : {m : ℕ} {l : List ℕ} → every p l ≡ true → In m l → p m ≡ true
+  unfolding every
+  every-out h (here {l}) = either (which (p _)) (λ t. t) (λ f. absurd (not-both (rw f at h) refl))
+  every-out h (there {x} {l} i) = either (which (p x)) (λ t. every-out (rw t at h) i) (λ f. absurd (not-both (rw f at h) refl))
+
+  pub keep-yes : (x : ℕ) (l : List ℕ) → p x ≡ true → keep p (x ∷ l) ≡ x ∷ keep p l
+  unfolding keep
+  keep-yes x l h = rw h
+
+  pub keep-no : (x : ℕ) (l : List ℕ) → p x ≡ false → keep p (x ∷ l) ≡ keep p l
+  unfolding keep
+  keep-no x l h = rw h
+
+  pub keep-in : {m : ℕ} {l : List ℕ} → In m l → p m ≡ true → In m (keep p l)
+  keep-in {m} (here {l}) h = subst (λ (k : List ℕ). In m k) (sym (keep-yes m l h)) here
+  keep-in {m} (there {x} {l} i) h = either (which (p x))
+      (λ t. subst (λ (k : List ℕ). In m k) (sym (keep-yes x l t)) (there (keep-in i h)))
+      (λ f. subst (λ (k : List ℕ). In m k) (sym (keep-no x l f)) (keep-in i h))
+
+  keep-out-cons : (x : ℕ) (l : List ℕ) (m : ℕ) → (In m (keep p l) → In m l × (p m ≡ true)) → In m (keep p (x ∷ l)) → In m (x ∷ l) × (p m ≡ true)
+  keep-out-cons x l m rest i = either (which (p x))
+      (λ t. either (In-cons (rw (keep-yes x l t) at i)) (λ e. (In-here e, ap p e ∙ t)) deeper)
+      (λ f. deeper (rw (keep-no x l f) at i))
+    where
+      deeper : In m (keep p l) → In m (x ∷ l) × (p m ≡ true)
+      deeper j = let (k, e) = rest j in (there k, e)
+
+  pub keep-out : (l : List ℕ) (m : ℕ) → In m (keep p l) → In m l × (p m ≡ true)
+  unfolding keep
+  keep-out [] m i = absurd (In-nil i)
+  keep-out (x ∷ l) m i = keep-out-cons x l m (keep-out l m) i
+
+  -- the greatest number below n that passes: it is below n, it passes where 0 does, and none that passes is above it
+  pub greatest-low : (n : ℕ) → 0 < n → greatest p n < n
+  unfolding greatest
+  greatest-low zero h = absurd (omega arith)
+  greatest-low (suc zero) h = either (which (p 0)) (λ t. rw t (omega arith)) (λ f. rw f (omega arith))
+  greatest-low (suc (suc n)) h = either (which (p (suc n))) (λ t. rw t (omega arith)) (λ f. rw f (omega (arith, greatest-low (suc n) (omega arith))))
+
+  pub greatest-passes : (n : ℕ) → p 0 ≡ true → p (greatest p n) ≡ true
+  unfolding greatest
+  greatest-passes zero z = z
+  greatest-passes (suc n) z = either (which (p n)) (λ t. rw t t) (λ f. rw f (greatest-passes n z))
+
+  pub greatest-most : (n k : ℕ) → k < n → p k ≡ true → k ≤ greatest p n
+  unfolding greatest
+  greatest-most zero k h t = absurd (omega arith)
+  greatest-most (suc n) k h t = either (which (p n))
+      (λ u. rw u (omega arith))
+      (λ f. rw f (greatest-most n k (either (same? k n) (λ e. absurd (not-both t (ap p e ∙ f))) (λ d. omega arith)) t))
+
+  -- a walk over the places from i + 1 on, of n: what is left answers for the whole, W
+  pub first-start : (n : ℕ) → firstOf p (places n) ≡ firstOf p (run (0 + 1) (n - 0))
+  unfolding places
+  first-start n = let z : n ≡ n - 0 = omega arith in ap (λ (m : ℕ). firstOf p (run 1 m)) z
+
+  module _ (W i n : ℕ) (left : W ≡ firstOf p (run (i + 1) (n - i))) where
+    open-run : i < n → W ≡ firstOf p ((i + 1) ∷ run (suc (i + 1)) (n - (i + 1)))
+    unfolding run
+    open-run h = let z : n - i ≡ suc (n - (i + 1)) = omega arith in left ∙ ap (λ (m : ℕ). firstOf p (run (i + 1) m)) z
+
+    pub first-here : i < n → p (i + 1) ≡ true → i + 1 ≡ W
+    unfolding firstOf
+    first-here h t = sym (open-run h ∙ rw t)
+
+    pub first-none : n ≤ i → 0 ≡ W
+    unfolding firstOf run
+    first-none h = let z : n - i ≡ 0 = omega arith in sym (left ∙ ap (λ (m : ℕ). firstOf p (run (i + 1) m)) z)
+
+    pub first-more : p (i + 1) ≡ false → W ≡ firstOf p (run (i + 1 + 1) (n - (i + 1)))
+    unfolding firstOf run
+    first-more f = either (which (ltb i n))
+        (λ t. open-run (ltb-true i n t) ∙ rw f (let z : suc (i + 1) ≡ i + 1 + 1 = omega arith in ap (λ (k : ℕ). firstOf p (run k (n - (i + 1)))) z))
+        (λ t. let h = ltb-false i n t in let z : n - (i + 1) ≡ 0 = omega arith in sym (first-none h) ∙ sym (ap (λ (m : ℕ). firstOf p (run (i + 1 + 1) m)) z))
+
+-- one place becomes one index here, and nowhere else
+pub at-suc : (l : List ℕ) (j : ℕ) → at l (suc j) ≡ getD l j 0
+unfolding at
+at-suc l j = refl
+
+pub index-at : (l : List ℕ) (i : ℕ) → 0 < i → getD l (i - 1) 0 ≡ at l i
+unfolding at
+index-at l zero h = absurd (omega arith)
+index-at l (suc j) h = let z : suc j - 1 ≡ j = omega arith in ap (λ (k : ℕ). getD l k 0) z
+
+pub at-index : (l : List ℕ) (i r : ℕ) → 0 < i → r ≡ getD l (i - 1) 0 → r ≡ at l i
+at-index l i r h e = e ∙ index-at l i h
+
+-- f of each place
+pub each-length : (f : ℕ → ℕ) (c n : ℕ) → length (each f (run c n)) ≡ n
+unfolding each run
+each-length f c zero = refl
+each-length f c (suc n) = ap suc (each-length f (suc c) n)
+
+each-run : (f : ℕ → ℕ) (c n j : ℕ) → j < n → getD (each f (run c n)) j 0 ≡ f (c + j)
+unfolding each run
+each-run f c zero j h = absurd (omega arith)
+each-run f c (suc n) zero h = let z : c ≡ c + 0 = omega arith in ap f z
+each-run f c (suc n) (suc j) h = let z : suc c + j ≡ c + suc j = omega arith in each-run f (suc c) n j (omega arith) ∙ ap f z
+
+pub each-place : (f : ℕ → ℕ) (n j : ℕ) → j < n → at (each f (places n)) (suc j) ≡ f (suc j)
+unfolding at places
+each-place f n j h = let z : 1 + j ≡ suc j = omega arith in each-run f 1 n j h ∙ ap f z
+
+pub places-length : (f : ℕ → ℕ) (n : ℕ) → length (each f (places n)) ≡ n
+unfolding places
+places-length f n = each-length f 1 n
+
+-- a list of n entries that has f of each place is `each f (places n)`
+pub each-only : (f : ℕ → ℕ) (n : ℕ) (l : List ℕ) → length l ≡ n → ((j : ℕ) → j < n → at l (suc j) ≡ f (suc j)) → l ≡ each f (places n)
+unfolding at
+each-only f n l h same = ext-getD 0 l (each f (places n)) (h ∙ sym (places-length f n)) (λ j k. same j (omega arith) ∙ sym (each-place f n j (omega arith)))
+
+-- the places of n are 1 to n
+run-in : (c n m : ℕ) → c ≤ m → m < c + n → In m (run c n)
+unfolding run
+run-in c zero m l h = absurd (omega arith)
+run-in c (suc n) m l h = either (same? m c) (λ e. In-here e) (λ d. there (run-in (suc c) n m (omega arith) (omega arith)))
+
+run-out : (c n m : ℕ) → In m (run c n) → (c ≤ m) × (m < c + n)
+unfolding run
+run-out c zero m i = absurd (In-nil i)
+run-out c (suc n) m i = either (In-cons i) (λ e. (omega arith, omega arith)) (λ j. let (a, b) = run-out (suc c) n m j in (omega arith, omega arith))
+
+pub places-in : (n m : ℕ) → 0 < m → m ≤ n → In m (places n)
+unfolding places
+places-in n m h l = run-in 1 n m h (omega arith)
+
+pub places-out : (n m : ℕ) → In m (places n) → (0 < m) × (m ≤ n)
+unfolding places
+places-out n m i = let (a, b) = run-out 1 n m i in (a, omega arith)
+
+-- the numbers below n, falling
+pub falling-in : (n m : ℕ) → m < n → In m (falling n)
+unfolding falling
+falling-in zero m h = absurd (omega arith)
+falling-in (suc n) m h = either (same? m n) (λ e. In-here e) (λ d. there (falling-in n m (omega arith)))
+
+pub falling-out : (n m : ℕ) → In m (falling n) → m < n
+unfolding falling
+falling-out zero m i = absurd (In-nil i)
+falling-out (suc n) m i = either (In-cons i) (λ e. omega arith) (λ j. omega (arith, falling-out n m j))

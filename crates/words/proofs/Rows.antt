@@ -1,0 +1,68 @@
+-- Equations of the words on rows: a card, a chain, looks, each at nothing and at one more. Assumes nothing.
+use mathlib.Core.Path.{_≡_, refl, sym, ap, _∙_}
+use mathlib.Core.Bool.{Bool, true, false, cond}
+use mathlib.Core.List.{List, [], _∷_}
+use Prim.Native.Nat.{ℕ, zero, suc, _+_, _-_, _≤_, _<_}
+use native.Mathlib.Omega.{arith}
+use lib.Dec.{eqb}
+use lib.ListN.{getD}
+use Rattle.words.specs.Lists.{at}
+use Rattle.words.specs.Rows.{card, Small, downIn, down, chain, looksFrom, looksAt, looksTo}
+use Rattle.words.proofs.Lists.{index-at}
+
+-- the card of place i is the byte at index i - 1
+pub card-index : (x : List ℕ) (i : ℕ) → 0 < i → getD x (i - 1) 0 ≡ card x i
+unfolding card
+card-index x i h = index-at x i h
+
+module _ {E : ℕ → ℕ} {n : ℕ} (small : Small E n) where
+  -- THE induction: down the chain from b
+  pub down-ind : (P : ℕ → Type 0) → P 0 → ((b : ℕ) → b < n → P (E (suc b)) → P (suc b)) → (b : ℕ) → b ≤ n → P b
+  down-ind P z s b h = go b b (omega arith) h
+    where
+      go : (f b : ℕ) → b ≤ f → b ≤ n → P b
+      go zero zero l h = z
+      go zero (suc b) l h = absurd (omega arith)
+      go (suc f) zero l h = z
+      go (suc f) (suc b) l h = s b h (go f (E (suc b)) (omega (arith, small .below b h)) (omega (arith, small .below b h)))
+
+  -- no more steps than b are needed
+  fuel : {T : Type 0} (z : T) (s : ℕ → T → T) (f g b : ℕ) → b ≤ f → b ≤ g → b ≤ n → downIn f E z s b ≡ downIn g E z s b
+  unfolding downIn
+  fuel z s zero zero b l k h = refl
+  fuel z s zero (suc g) zero l k h = refl
+  fuel z s zero (suc g) (suc b) l k h = absurd (omega arith)
+  fuel z s (suc f) zero zero l k h = refl
+  fuel z s (suc f) zero (suc b) l k h = absurd (omega arith)
+  fuel z s (suc f) (suc g) zero l k h = refl
+  fuel z s (suc f) (suc g) (suc b) l k h =
+      let r = small .below b h in
+      ap (s (suc b)) (fuel z s f g (E (suc b)) (omega arith) (omega arith) (omega arith))
+
+  pub down-suc : {T : Type 0} (z : T) (s : ℕ → T → T) (b : ℕ) → b < n → down E z s (suc b) ≡ s (suc b) (down E z s (E (suc b)))
+  unfolding down downIn
+  down-suc z s b h = let r = small .below b h in ap (s (suc b)) (fuel z s b (E (suc b)) (E (suc b)) (omega arith) (omega arith) (omega arith))
+
+  pub chain-suc : (b : ℕ) → b < n → chain E (suc b) ≡ suc b ∷ chain E (E (suc b))
+  unfolding chain
+  chain-suc b h = down-suc (0 ∷ []) (λ k rest. k ∷ rest) b h
+
+  pub looks-suc : (X : ℕ → ℕ) (c b : ℕ) → b < n → looksFrom X E c (suc b) ≡ cond (eqb (X (suc (suc b))) c) 1 (suc (looksFrom X E c (E (suc b))))
+  unfolding looksFrom
+  looks-suc X c b h = down-suc 1 (λ k rest. cond (eqb (X (suc k)) c) 1 (suc rest)) b h
+
+pub down-zero : {T : Type 0} (E : ℕ → ℕ) (z : T) (s : ℕ → T → T) → down E z s 0 ≡ z
+unfolding down downIn
+down-zero E z s = refl
+
+pub chain-zero : (E : ℕ → ℕ) → chain E 0 ≡ 0 ∷ []
+unfolding chain
+chain-zero E = down-zero E (0 ∷ []) (λ k rest. k ∷ rest)
+
+pub looks-zero : (X E : ℕ → ℕ) (c : ℕ) → looksFrom X E c 0 ≡ 1
+unfolding looksFrom
+looks-zero X E c = down-zero E 1 (λ k rest. cond (eqb (X (suc k)) c) 1 (suc rest))
+
+-- a part of what is small is small
+pub small-less : {E : ℕ → ℕ} {n : ℕ} (m : ℕ) → m ≤ n → Small E n → Small E m
+small-less m h s = record { below = λ i l. s .below i (omega arith) }

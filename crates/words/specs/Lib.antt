@@ -1,0 +1,9 @@
+pub mod Lists
+pub mod Rows
+pub mod Numbers
+pub mod Stand
+pub mod Least
+pub mod Listing
+pub mod Strips
+pub mod Sheet
+pub mod Outcomes

@@ -1,0 +1,31 @@
+// The numbers that come back.
+pub const DONE: u8 = 0;
+
+pub const ALPHABET: u8 = 1;
+
+pub const LONG: u8 = 2;
+
+pub const MISMATCH: u8 = 3;
+
+pub const CARD: u8 = 4;
+
+pub const IMPOSSIBLE: u8 = 5;
+
+pub const HIDDEN: u8 = 6;
+
+pub const FULL: u8 = 7;
+
+pub const ROOM: u8 = 8;
+
+pub const LAST: u8 = 9;
+
+pub const DIFFERS: u8 = 10;
+
+// The greatest alphabet, the greatest length of a row or array, the greatest n that is counted, and the letter a.
+pub const LETTERS: usize = 26;
+
+pub const LIMIT: usize = 4096;
+
+pub const COUNT_LIMIT: usize = 20;
+
+pub const FIRST_LETTER: u8 = b'a';
