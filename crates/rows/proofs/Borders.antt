@@ -10,8 +10,8 @@ use lib.Dec.{eqb}
 use borrow.Author.Tests.{eqb-true, eq-eqb}
 use Rattle.words.specs.Lists.{greatest, keep, falling}
 use Rattle.words.specs.Rows.{agree, closes, echo, chain, borders, Small}
-use Rattle.words.proofs.Lists.{which, either, same?, not-both, greatest-low, greatest-passes, greatest-most, In, here, there, In-nil, In-cons, In-here, keep-in, keep-out, falling-in, falling-out}
-use Rattle.words.proofs.Rows.{down-ind, chain-zero, chain-suc}
+use Rattle.words.proofs.Lists.{which, either, same?, not-both, greatest-low, greatest-passes, greatest-most, In, here, there, In-nil, In-cons, In-here, keep-in, keep-out, falling-in, falling-out, falling-falls, keep-falls, falls-same}
+use Rattle.words.proofs.Rows.{down-ind, chain-zero, chain-suc, chain-falls}
 use Rattle.rows.specs.Border.{Closes, Border}
 
 agree-out : (Y X : ℕ → ℕ) (d k : ℕ) → agree eqb Y X d k ≡ true → (j : ℕ) → 0 < j → j ≤ k → Y j ≡ X (d + j)
@@ -146,3 +146,15 @@ border-chain X i m h = (
       let b = echo-border X i h in
       record { less = omega (arith, c .short, b .less); edge = closes-trans (b .edge) c },
 )
+
+-- the chain of place i is the list of its borders, the longest first (001, Lemma 2.1)
+pub chain-borders : (X : ℕ → ℕ) (i : ℕ) → 0 < i → chain (echo X) (echo X i) ≡ borders X i
+unfolding borders
+chain-borders X i h =
+    let l = echo-below X i h in
+    falls-same (chain (echo X) (echo X i)) (keep (closes X X i) (falling i)) (chain-falls (echo-small X i) (echo X i) (omega arith)) (keep-falls (closes X X i) (falling i) (falling-falls i))
+    (λ m j. let b = border-chain X i m h .1 j in keep-in (closes X X i) (falling-in i m (b .less)) (closes-in (b .edge)))
+    (λ m j.
+    let (k, t) = keep-out (closes X X i) (falling i) m j in
+    let s = falling-out i m k in
+    border-chain X i m h .0 (record { less = s; edge = closes-out X X i m (omega arith) t }))

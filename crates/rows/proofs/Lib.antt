@@ -1,1 +1,3 @@
 pub mod Borders
+pub mod Growing
+pub mod Looking

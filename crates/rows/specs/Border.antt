@@ -6,7 +6,7 @@ use Prim.Native.Nat.{ℕ, zero, suc, _+_, _≤_, _<_}
 use lib.Dec.{eqb}
 use lib.ListN.{length}
 use Rattle.words.specs.Lists.{both, greatest, at}
-use Rattle.words.specs.Rows.{card, closes, echo, looksFrom}
+use Rattle.words.specs.Rows.{card, Alike, closes, echo, looksFrom}
 
 -- the first k cards of Y are the last k of X[1..i]: card j of Y is card h of X where j lies as far before k as h before i
 pub record Closes (Y X : ℕ → ℕ) (i k : ℕ) : Type 0 where
@@ -36,4 +36,4 @@ looksOf E (suc (suc i)) = looksOf E (suc i) + looksFrom (λ j. j) E (E (suc (suc
 -- e holds the echoes of X up to place b
 pub record Known (X : ℕ → ℕ) (e : List ℕ) (b : ℕ) : Type 0 where
   pub long : b ≤ length e
-  pub right : (i : ℕ) → i < b → at e (suc i) ≡ echo X (suc i)
+  pub right : Alike (at e) (echo X) b

@@ -7,10 +7,10 @@ use Prim.Native.Nat.{ℕ, zero, suc, _+_, _-_, _≤_, _<_}
 use native.Mathlib.Omega.{arith}
 use native.Mathlib.Numerals.{add-one}
 use lib.Dec.{ltb, eqb}
-use lib.ListN.{length, getD}
-use lib.Seq.{ext-getD}
+use lib.ListN.{length, getD, set, length-set}
+use lib.Seq.{ext-getD, getD-set-same, getD-set-other}
 use borrow.Author.Tests.{ltb-true, ltb-false, eqb-true, eqb-false}
-use Rattle.words.specs.Lists.{both, each, any, every, keep, firstOf, greatest, run, places, falling, at}
+use Rattle.words.specs.Lists.{both, each, any, every, keep, firstOf, greatest, run, places, falling, at, placed}
 
 -- a test with its equation, to take apart
 pub which : (t : Bool) → (t ≡ true) ⊎ (t ≡ false)
@@ -236,3 +236,63 @@ pub falling-out : (n m : ℕ) → In m (falling n) → m < n
 unfolding falling
 falling-out zero m i = absurd (In-nil i)
 falling-out (suc n) m i = either (In-cons i) (λ e. omega arith) (λ j. omega (arith, falling-out n m j))
+
+-- each member is above those behind it
+unfoldable pub Falls : List ℕ → Type 0
+Falls [] = Unit
+Falls (x ∷ l) = ((m : ℕ) → In m l → m < x) × Falls l
+
+pub falling-falls : (n : ℕ) → Falls (falling n)
+unfolding Falls falling
+falling-falls zero = tt
+falling-falls (suc n) = (falling-out n, falling-falls n)
+
+pub keep-falls : (p : ℕ → Bool) (l : List ℕ) → Falls l → Falls (keep p l)
+unfolding Falls keep
+keep-falls p [] f = tt
+keep-falls p (x ∷ l) f = go (which (p x)) (keep-falls p l (f .1))
+  where
+    go : (p x ≡ true) ⊎ (p x ≡ false) → Falls (keep p l) → Falls (keep p (x ∷ l))
+    go (inl t) rest = rw (keep-yes p x l t) ((λ m i. f .0 m (keep-out p l m i .0)), rest)
+    go (inr t) rest = rw (keep-no p x l t) rest
+
+-- two falling lists with the same members are equal
+pub falls-same : (l k : List ℕ) → Falls l → Falls k → ((m : ℕ) → In m l → In m k) → ((m : ℕ) → In m k → In m l) → l ≡ k
+unfolding Falls
+falls-same [] [] f g to from = refl
+falls-same [] (y ∷ k) f g to from = absurd (In-nil (from y here))
+falls-same (x ∷ l) [] f g to from = absurd (In-nil (to x here))
+falls-same (x ∷ l) (y ∷ k) f g to from = cc (top, falls-same l k (f .1) (g .1) (λ m i. behind m i (In-cons (to m (there i)))) (λ m i. before m i (In-cons (from m (there i)))))
+  where
+    top : x ≡ y
+    top = either (In-cons (to x here)) (λ e. e) (λ i. either (In-cons (from y here)) (λ e. sym e) (λ j. absurd (omega (arith, f .0 y j, g .0 x i))))
+
+    behind : (m : ℕ) → In m l → (m ≡ y) ⊎ In m k → In m k
+    behind m i (inl e) = absurd (omega (arith, f .0 m i, top))
+    behind m i (inr j) = j
+
+    before : (m : ℕ) → In m k → (m ≡ x) ⊎ In m l → In m l
+    before m i (inl e) = absurd (omega (arith, g .0 m i, top))
+    before m i (inr j) = j
+
+-- what a list with v at place i has
+pub placed-long : (l : List ℕ) (i v : ℕ) → length (placed l i v) ≡ length l
+unfolding placed
+placed-long l zero v = refl
+placed-long l (suc j) v = length-set l j v
+
+pub placed-same : (l : List ℕ) (i v : ℕ) → 0 < i → i ≤ length l → at (placed l i v) i ≡ v
+unfolding placed at
+placed-same l zero v p h = absurd (omega arith)
+placed-same l (suc j) v p h = getD-set-same l j v 0 h
+
+pub placed-other : (l : List ℕ) (i v j : ℕ) → (j ≡ i → ⊥) → at (placed l i v) j ≡ at l j
+unfolding placed at
+placed-other l zero v j d = refl
+placed-other l (suc i) v zero d = refl
+placed-other l (suc i) v (suc j) d = getD-set-other l i j v 0 (λ e. d (ap suc e))
+
+pub set-placed : (l m : List ℕ) (i v : ℕ) → 0 < i → m ≡ set l (i - 1) v → m ≡ placed l i v
+unfolding placed
+set-placed l m zero v p e = absurd (omega arith)
+set-placed l m (suc j) v p e = let z : suc j - 1 ≡ j = omega arith in e ∙ ap (λ (k : ℕ). set l k v) z

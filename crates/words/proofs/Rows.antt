@@ -7,8 +7,8 @@ use native.Mathlib.Omega.{arith}
 use lib.Dec.{eqb}
 use lib.ListN.{getD}
 use Rattle.words.specs.Lists.{at}
-use Rattle.words.specs.Rows.{card, Small, downIn, down, chain, looksFrom, looksAt, looksTo}
-use Rattle.words.proofs.Lists.{index-at}
+use Rattle.words.specs.Rows.{card, Small, Alike, downIn, down, chain, looksFrom, looksAt, looksTo}
+use Rattle.words.proofs.Lists.{index-at, either, In, In-nil, In-cons, Falls}
 
 -- the card of place i is the byte at index i - 1
 pub card-index : (x : List ℕ) (i : ℕ) → 0 < i → getD x (i - 1) 0 ≡ card x i
@@ -66,3 +66,35 @@ looks-zero X E c = down-zero E 1 (λ k rest. cond (eqb (X (suc k)) c) 1 (suc res
 -- a part of what is small is small
 pub small-less : {E : ℕ → ℕ} {n : ℕ} (m : ℕ) → m ≤ n → Small E n → Small E m
 small-less m h s = record { below = λ i l. s .below i (omega arith) }
+
+-- tables with the same echoes have the same walks
+pub small-alike : {E F : ℕ → ℕ} {n : ℕ} → Alike E F n → Small E n → Small F n
+small-alike a s = record { below = λ i h. omega (arith, s .below i h, a .same i h) }
+
+pub alike-flip : {E F : ℕ → ℕ} {n : ℕ} → Alike E F n → Alike F E n
+alike-flip a = record { same = λ i h. sym (a .same i h) }
+
+pub down-alike : {T : Type 0} {E F : ℕ → ℕ} {n : ℕ} (z : T) (s : ℕ → T → T) → Small E n → Alike E F n → (b : ℕ) → b ≤ n → down E z s b ≡ down F z s b
+down-alike {T} {E} {F} z s small a = down-ind small (λ b. down E z s b ≡ down F z s b)
+    (down-zero E z s ∙ sym (down-zero F z s))
+    (λ b h rest. down-suc small z s b h ∙ ap (s (suc b)) (rest ∙ ap (down F z s) (a .same b h)) ∙ sym (down-suc (small-alike a small) z s b h))
+
+pub chain-alike : {E F : ℕ → ℕ} {n : ℕ} → Small E n → Alike E F n → (b : ℕ) → b ≤ n → chain E b ≡ chain F b
+unfolding chain
+chain-alike small a b h = down-alike (0 ∷ []) (λ k rest. k ∷ rest) small a b h
+
+pub looks-alike : {E F : ℕ → ℕ} {n : ℕ} (X : ℕ → ℕ) (c : ℕ) → Small E n → Alike E F n → (b : ℕ) → b ≤ n → looksFrom X E c b ≡ looksFrom X F c b
+unfolding looksFrom
+looks-alike X c small a b h = down-alike 1 (λ k rest. cond (eqb (X (suc k)) c) 1 (suc rest)) small a b h
+
+-- a chain falls from b to zero
+pub chain-range : {E : ℕ → ℕ} {n : ℕ} → Small E n → (b : ℕ) → b ≤ n → (m : ℕ) → In m (chain E b) → m ≤ b
+chain-range {E} small = down-ind small (λ b. (m : ℕ) → In m (chain E b) → m ≤ b)
+    (λ m i. either (In-cons (rw (chain-zero E) at i)) (λ e. omega arith) (λ j. absurd (In-nil j)))
+    (λ b h rest m i. either (In-cons (rw (chain-suc small b h) at i)) (λ e. omega arith) (λ j. omega (arith, rest m j, small .below b h)))
+
+pub chain-falls : {E : ℕ → ℕ} {n : ℕ} → Small E n → (b : ℕ) → b ≤ n → Falls (chain E b)
+unfolding Falls
+chain-falls {E} small = down-ind small (λ b. Falls (chain E b))
+    (rw (chain-zero E) ((λ m i. absurd (In-nil i)), tt))
+    (λ b h rest. rw (chain-suc small b h) ((λ m i. omega (arith, small .below b h, chain-range small (E (suc b)) (omega (arith, small .below b h)) m i)), rest))

@@ -4,7 +4,7 @@ use mathlib.Core.Bool.{Bool, true, false, cond}
 use mathlib.Core.List.{List, [], _∷_, _++_}
 use Prim.Native.Nat.{ℕ, zero, suc, _+_}
 use lib.Dec.{eqb}
-use lib.ListN.{getD}
+use lib.ListN.{getD, set}
 
 -- both tests pass
 unfoldable pub both : Bool → Bool → Bool
@@ -76,3 +76,8 @@ falling (suc n) = n ∷ falling n
 unfoldable pub at : List ℕ → ℕ → ℕ
 at l zero = 0
 at l (suc j) = getD l j 0
+
+-- the list with v at place i
+unfoldable pub placed : List ℕ → ℕ → ℕ → List ℕ
+placed l zero v = l
+placed l (suc j) v = set l j v

@@ -1,5 +1,6 @@
 -- From cards: echo, chain, reach, period, looks ("Words and limits"). A row is read by place: `X i` is the card of place i, from 1 on.
 -- Assumes nothing: these are definitions.
+use mathlib.Core.Path.{_≡_}
 use mathlib.Core.Bool.{Bool, true, false, cond}
 use mathlib.Core.List.{List, [], _∷_}
 use Prim.Native.Nat.{ℕ, zero, suc, _+_, _-_, _≤_, _<_}
@@ -31,6 +32,10 @@ echoes x = each (echo (card x)) (places (length x))
 -- each echo of the first n places is below its place
 pub record Small (E : ℕ → ℕ) (n : ℕ) : Type 0 where
   pub below : (i : ℕ) → i < n → E (suc i) ≤ i
+
+-- E and F have the same echoes at the first n places
+pub record Alike (E F : ℕ → ℕ) (n : ℕ) : Type 0 where
+  pub same : (i : ℕ) → i < n → E (suc i) ≡ F (suc i)
 
 -- down the chain from b: z at zero, and at each number above it what s makes of the number and of what comes behind it; b steps are enough
 unfoldable pub downIn : {T : Type 0} → ℕ → (ℕ → ℕ) → T → (ℕ → T → T) → ℕ → T
