@@ -40,21 +40,24 @@ pub grown-here : (Y : ℕ → ℕ) (b c : ℕ) → Y (suc b) ≡ c → suc b ≡
 grown-here Y b c e = omega (arith, grown-low Y b c, grown-most c (closes-all Y b) e)
 
 pub grown-end : (Y : ℕ → ℕ) (c : ℕ) → (Y 1 ≡ c → ⊥) → 0 ≡ grown Y 0 c
-grown-end Y c d = omega (arith, upto (grown Y 0 c) 0 (λ k e.
-    let (s, q) = grown-parts Y 0 c k e in
-    let z : suc k ≡ 1 = omega (arith, s .short) in
-    absurd (d (ap Y (sym z) ∙ q))))
+grown-end Y c d = omega (
+  arith,
+  upto (grown Y 0 c) 0 (λ k e.
+      let (s, q) = grown-parts Y 0 c k e in
+      let z : suc k ≡ 1 = omega (arith, s .short) in
+      absurd (d (ap Y (sym z) ∙ q))),
+)
 
 pub grown-on : (Y : ℕ → ℕ) (b c : ℕ) → (b ≡ 0 → ⊥) → (Y (suc b) ≡ c → ⊥) → grown Y (echo Y b) c ≡ grown Y b c
 grown-on Y b c n d = omega (
   arith,
   upto (grown Y b c) (grown Y (echo Y b) c) (λ k e.
-  let (s, q) = grown-parts Y b c k e in
-  let l : k < b = strict k s q in
-  grown-most c (closes-echo s l) q),
+      let (s, q) = grown-parts Y b c k e in
+      let l : k < b = strict k s q in
+      grown-most c (closes-echo s l) q),
   upto (grown Y (echo Y b) c) (grown Y b c) (λ k e.
-  let (s, q) = grown-parts Y (echo Y b) c k e in
-  grown-most c (closes-trans (echo-border Y b (omega arith) .edge) s) q),
+      let (s, q) = grown-parts Y (echo Y b) c k e in
+      grown-most c (closes-trans (echo-border Y b (omega arith) .edge) s) q),
 )
   where
     strict : (k : ℕ) → Closes Y Y b k → Y (suc k) ≡ c → k < b
@@ -65,12 +68,12 @@ pub echo-next : (X : ℕ → ℕ) (i : ℕ) → 0 < i → echo X (suc i) ≡ gro
 echo-next X i h = omega (
   arith,
   upto (echo X (suc i)) (grown X (echo X i) (X (suc i))) (λ k e.
-  let b = subst (λ (m : ℕ). Border X (suc i) m) e (echo-border X (suc i) (omega arith)) in
-  grown-most (X (suc i)) (closes-echo (closes-less (b .edge)) (omega (arith, b .less))) (closes-card (b .edge))),
+      let b = subst (λ (m : ℕ). Border X (suc i) m) e (echo-border X (suc i) (omega arith)) in
+      grown-most (X (suc i)) (closes-echo (closes-less (b .edge)) (omega (arith, b .less))) (closes-card (b .edge))),
   upto (grown X (echo X i) (X (suc i))) (echo X (suc i)) (λ k e.
-  let (s, q) = grown-parts X (echo X i) (X (suc i)) k e in
-  let b = echo-border X i h in
-  echo-most (record { less = omega (arith, s .short, b .less); edge = closes-more (closes-trans (b .edge) s) q })),
+      let (s, q) = grown-parts X (echo X i) (X (suc i)) k e in
+      let b = echo-border X i h in
+      echo-most (record { less = omega (arith, s .short, b .less); edge = closes-more (closes-trans (b .edge) s) q })),
 )
 
 -- the overlap closes the left row within the right one, and nothing that does is longer
@@ -90,12 +93,12 @@ overlap-next : (X : ℕ → ℕ) (n : ℕ) (Y : ℕ → ℕ) (m b : ℕ) → Clo
 overlap-next X n Y m b c l all = omega (
   arith,
   upto (overlap X (suc n) Y m) (grown Y b (X (suc n))) (λ k e.
-  let (s, f) = overlap-closes X (suc n) Y m in
-  let t = subst (λ (r : ℕ). Closes Y X (suc n) r) e s in
-  grown-most (X (suc n)) (all k (closes-less t) (omega arith)) (closes-card t)),
+      let (s, f) = overlap-closes X (suc n) Y m in
+      let t = subst (λ (r : ℕ). Closes Y X (suc n) r) e s in
+      grown-most (X (suc n)) (all k (closes-less t) (omega arith)) (closes-card t)),
   upto (grown Y b (X (suc n))) (overlap X (suc n) Y m) (λ k e.
-  let (s, q) = grown-parts Y b (X (suc n)) k e in
-  overlap-most m (closes-more (closes-trans c s) q) (omega (arith, s .short))),
+      let (s, q) = grown-parts Y b (X (suc n)) k e in
+      overlap-most m (closes-more (closes-trans c s) q) (omega (arith, s .short))),
 )
 
 -- the walk starts at the overlap, or, where that is the whole right row, at its last echo

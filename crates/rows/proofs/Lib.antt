@@ -1,3 +1,4 @@
 pub mod Borders
 pub mod Growing
 pub mod Looking
+pub mod Walks

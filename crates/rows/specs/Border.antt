@@ -2,11 +2,11 @@
 use mathlib.Core.Path.{_≡_}
 use mathlib.Core.Bool.{Bool, true}
 use mathlib.Core.List.{List}
-use Prim.Native.Nat.{ℕ, zero, suc, _+_, _≤_, _<_}
+use Prim.Native.Nat.{ℕ, zero, suc, _+_, _-_, _*_, _≤_, _<_}
 use lib.Dec.{eqb}
 use lib.ListN.{length}
 use Rattle.words.specs.Lists.{both, greatest, at}
-use Rattle.words.specs.Rows.{card, Alike, closes, echo, looksFrom}
+use Rattle.words.specs.Rows.{card, Alike, closes, echo, looksFrom, looksTo}
 
 -- the first k cards of Y are the last k of X[1..i]: card j of Y is card h of X where j lies as far before k as h before i
 pub record Closes (Y X : ℕ → ℕ) (i k : ℕ) : Type 0 where
@@ -37,3 +37,18 @@ looksOf E (suc (suc i)) = looksOf E (suc i) + looksFrom (λ j. j) E (E (suc (suc
 pub record Known (X : ℕ → ℕ) (e : List ℕ) (b : ℕ) : Type 0 where
   pub long : b ≤ length e
   pub right : Alike (at e) (echo X) b
+
+-- the first i echoes of the row x stand in e, and b is the last of them
+pub record Filling (x e : List ℕ) (b i : ℕ) : Type 0 where
+  pub below : b < i
+  pub within : i ≤ length x
+  pub whole : length e ≡ length x
+  pub last : b ≡ echo (card x) i
+  pub known : Known (card x) e i
+
+-- k is the looks of the first i places of x
+pub record Adding (x : List ℕ) (k i : ℕ) : Type 0 where
+  pub some : 0 < i
+  pub within : i ≤ length x
+  pub low : k ≤ 2 * i - 2
+  pub sum : k ≡ looksTo (card x) (echo (card x)) i

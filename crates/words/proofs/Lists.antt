@@ -292,7 +292,7 @@ placed-other l zero v j d = refl
 placed-other l (suc i) v zero d = refl
 placed-other l (suc i) v (suc j) d = getD-set-other l i j v 0 (λ e. d (ap suc e))
 
-pub set-placed : (l m : List ℕ) (i v : ℕ) → 0 < i → m ≡ set l (i - 1) v → m ≡ placed l i v
+pub set-placed : (l : List ℕ) (i v : ℕ) → 0 < i → set l (i - 1) v ≡ placed l i v
 unfolding placed
-set-placed l m zero v p e = absurd (omega arith)
-set-placed l m (suc j) v p e = let z : suc j - 1 ≡ j = omega arith in e ∙ ap (λ (k : ℕ). set l k v) z
+set-placed l zero v p = absurd (omega arith)
+set-placed l (suc j) v p = let z : suc j - 1 ≡ j = omega arith in ap (λ (k : ℕ). set l k v) z

@@ -1,0 +1,186 @@
+-- The walks and loops in the code's own terms: a lemma for each way out. Assumes nothing.
+use mathlib.Core.Path.{_≡_, refl, sym, ap, subst, _∙_}
+use mathlib.Core.List.{List}
+use Prim.Native.Nat.{ℕ, zero, suc, _+_, _-_, _*_, _≤_, _<_}
+use native.Mathlib.Omega.{arith}
+use native.Mathlib.Numerals.{add-one}
+use lib.ListN.{length}
+use Rattle.words.specs.Lists.{at, each, places, placed}
+use Rattle.words.specs.Rows.{card, Small, Alike, echo, echoes, looksFrom, looksAt, looksTo, looks}
+use Rattle.words.proofs.Lists.{either, same?, each-place, each-only, places-length, placed-long, placed-same, placed-other}
+use Rattle.words.proofs.Rows.{looks-zero}
+use Rattle.rows.specs.Border.{Known, grown, Filling, Adding}
+use Rattle.rows.proofs.Borders.{echo-below, echo-one, echo-small}
+use Rattle.rows.proofs.Growing.{grown-here, grown-end, grown-on, echo-next}
+use Rattle.rows.proofs.Looking.{looks-hit, looks-on, looks-most}
+
+-- what is known up to i is known up to any b below it
+pub known-less : {X : ℕ → ℕ} {e : List ℕ} {i : ℕ} (b : ℕ) → Known X e i → b < i → Known X e b
+known-less b k h = record { long = omega (arith, k .long); right = record { same = λ j l. k .right .same j (omega arith) } }
+
+-- the cards in the code are at b + 1
+pub extend-here : (X : ℕ → ℕ) (b c v : ℕ) → v ≡ X (b + 1) → v ≡ c → b + 1 ≡ grown X b c
+extend-here X b c v e q = omega (arith, grown-here X b c (ap X (sym (add-one b)) ∙ sym e ∙ q))
+
+pub extend-end : (X : ℕ → ℕ) (b c v : ℕ) → v ≡ X (b + 1) → (v ≡ c → ⊥) → b ≡ 0 → 0 ≡ grown X b c
+extend-end X b c v e d z = grown-end X c (λ q. d (e ∙ ap X (ap (λ (m : ℕ). m + 1) z) ∙ q)) ∙ ap (λ (m : ℕ). grown X m c) (sym z)
+
+pub look-end : (X : ℕ → ℕ) (b c : ℕ) → b ≡ 0 → 1 ≡ looksFrom X (echo X) c b
+look-end X b c z = sym (ap (looksFrom X (echo X) c) z ∙ looks-zero X (echo X) c)
+
+pub look-here : (X : ℕ → ℕ) (b c v : ℕ) → v ≡ X (b + 1) → v ≡ c → 1 ≡ looksFrom X (echo X) c b
+look-here X b c v e q = sym (looks-hit (echo-small X b) X c b (omega arith) (ap X (sym (add-one b)) ∙ sym e ∙ q))
+
+-- the next number of a walk is the echo of b
+module _ {X : ℕ → ℕ} {e : List ℕ} {b : ℕ} (known : Known X e b) (y : ℕ) (is : y ≡ at e b) (some : b ≡ 0 → ⊥) where
+  next-echo : y ≡ echo X b
+  next-echo = is ∙ go b known some
+    where
+      go : (b : ℕ) → Known X e b → (b ≡ 0 → ⊥) → at e b ≡ echo X b
+      go zero k d = absurd (d refl)
+      go (suc b) k d = k .right .same b (omega arith)
+
+  next-below : y < b
+  next-below = omega (arith, next-echo, echo-below X b (omega arith))
+
+  pub next-falls : (t : ℕ) → b ≡ t → y < t
+  next-falls t z = omega (arith, next-below)
+
+  pub next-inside : (n : ℕ) → b < n → y < n
+  next-inside n h = omega (arith, next-below)
+
+  pub next-known : Known X e y
+  next-known = known-less y known next-below
+
+  pub extend-on : (c v r : ℕ) → v ≡ X (b + 1) → (v ≡ c → ⊥) → r ≡ grown X y c → r ≡ grown X b c
+  extend-on c v r q d g = g ∙ ap (λ (m : ℕ). grown X m c) next-echo ∙ grown-on X b c some (λ z. d (q ∙ ap X (add-one b) ∙ z))
+
+  pub extend-low : (r : ℕ) → r ≤ y + 1 → r ≤ b + 1
+  extend-low r h = omega (arith, next-below)
+
+  pub look-on : (c v r : ℕ) → v ≡ X (b + 1) → (v ≡ c → ⊥) → r ≡ looksFrom X (echo X) c y → r + 1 ≡ looksFrom X (echo X) c b
+  look-on c v r q d g = omega (arith, g, ap (looksFrom X (echo X) c) next-echo, go b some (λ z. d (q ∙ ap X (add-one b) ∙ z)))
+    where
+      go : (b : ℕ) → (b ≡ 0 → ⊥) → (X (suc b) ≡ c → ⊥) → looksFrom X (echo X) c b ≡ suc (looksFrom X (echo X) c (echo X b))
+      go zero n d = absurd (n refl)
+      go (suc b) n d = looks-on (echo-small X (suc b)) X c b (omega arith) d
+
+  pub look-low : (r : ℕ) → r ≤ y + 1 → r + 1 ≤ b + 1
+  look-low r h = omega (arith, next-below)
+
+-- the echoes of a row, as a list
+pub echoes-long : (x : List ℕ) → length (echoes x) ≡ length x
+unfolding echoes
+echoes-long x = places-length (echo (card x)) (length x)
+
+pub echoes-at : (x : List ℕ) (i : ℕ) → i < length x → at (echoes x) (suc i) ≡ echo (card x) (suc i)
+unfolding echoes
+echoes-at x i h = each-place (echo (card x)) (length x) i h
+
+pub echoes-known : (x e : List ℕ) → e ≡ echoes x → Known (card x) e (length x)
+echoes-known x e q = record {
+  long = omega (arith, ap length q, echoes-long x);
+  right = record { same = λ i h. ap (λ (l : List ℕ). at l (suc i)) q ∙ echoes-at x i h };
+}
+
+-- the loop that fills a table
+pub fill-start : (x e f : List ℕ) → length e ≡ length x → (length x ≡ 0 → ⊥) → f ≡ placed e 1 0 → Filling x f 0 1
+fill-start x e f n d q =
+    let l = ap length q ∙ placed-long e 1 0 in
+    record {
+      below = omega arith;
+      within = omega arith;
+      whole = omega arith;
+      last = echo-one (card x);
+      known = record { long = omega arith; right = record { same = λ i h. first i h } };
+    }
+  where
+    first : (i : ℕ) → i < 1 → at f (suc i) ≡ echo (card x) (suc i)
+    first i h =
+        let z : 1 ≡ suc i = omega arith in
+        subst (λ (m : ℕ). at f m ≡ echo (card x) m) z (ap (λ (l : List ℕ). at l 1) q ∙ placed-same e 1 0 (omega arith) (omega arith) ∙ echo-one (card x))
+
+module _ {x e : List ℕ} {b i : ℕ} (filling : Filling x e b i) where
+  pub fill-known : Known (card x) e b
+  fill-known = known-less b (filling .known) (filling .below)
+
+  module _ (c r : ℕ) (at-card : c ≡ card x (i + 1)) (grows : r ≡ grown (card x) b c) where
+    fill-next : r ≡ echo (card x) (i + 1)
+    fill-next = grows ∙ ap (grown (card x) b) at-card ∙ ap (λ (m : ℕ). grown (card x) m (card x (i + 1))) (filling .last)
+        ∙ rw add-one (sym (echo-next (card x) i (omega (arith, filling .below))))
+
+    pub fill-more : (f : List ℕ) → i < length x → f ≡ placed e (i + 1) r → Filling x f r (i + 1)
+    fill-more f h p =
+        let l = ap length p ∙ placed-long e (i + 1) r in
+        record {
+          below = omega (arith, fill-next, echo-below (card x) (i + 1) (omega arith));
+          within = omega arith;
+          whole = omega (arith, filling .whole);
+          last = fill-next;
+          known = record { long = omega (arith, filling .whole); right = record { same = λ j m. ap (λ (t : List ℕ). at t (suc j)) p ∙ entry j m } };
+        }
+      where
+        entry : (j : ℕ) → j < i + 1 → at (placed e (i + 1) r) (suc j) ≡ echo (card x) (suc j)
+        entry j m = either (same? (suc j) (i + 1))
+            (λ w. ap (at (placed e (i + 1) r)) w ∙ placed-same e (i + 1) r (omega arith) (omega (arith, filling .whole)) ∙ fill-next ∙ ap (echo (card x)) (sym w))
+            (λ d. placed-other e (i + 1) r (suc j) d ∙ filling .known .right .same j (omega arith))
+
+  pub fill-done : length x ≤ i → e ≡ echoes x
+  unfolding echoes
+  fill-done h = each-only (echo (card x)) (length x) e (filling .whole) (λ j l. filling .known .right .same j (omega arith))
+
+pub fill-none : (x e : List ℕ) → length x ≡ 0 → length e ≡ length x → e ≡ echoes x
+unfolding echoes
+fill-none x e z n = each-only (echo (card x)) (length x) e n (λ j l. absurd (omega arith))
+
+-- the loop that adds up the looks
+pub add-start : (x : List ℕ) → (length x ≡ 0 → ⊥) → Adding x 0 1
+unfolding looksTo looksAt
+add-start x d = record { some = omega arith; within = omega arith; low = omega arith; sum = omega arith }
+
+module _ {x : List ℕ} {k i : ℕ} (adding : Adding x k i) (e : List ℕ) (whole : e ≡ echoes x) (inside : i < length x) where
+  pub add-table : i ≤ length e
+  add-table = omega (arith, ap length whole, echoes-long x)
+
+  module _ (b : ℕ) (is : b ≡ at e i) where
+    add-echo : b ≡ echo (card x) i
+    add-echo = is ∙ go i (adding .some) inside
+      where
+        go : (i : ℕ) → 0 < i → i < length x → at e i ≡ echo (card x) i
+        go zero p h = absurd (omega arith)
+        go (suc i) p h = echoes-known x e whole .right .same i (omega arith)
+
+    pub add-inside : b < length x
+    add-inside = omega (arith, add-echo, echo-below (card x) i (adding .some))
+
+    pub add-known : Known (card x) e b
+    add-known = known-less b (echoes-known x e whole) add-inside
+
+    pub add-more : (c r : ℕ) → c ≡ card x (i + 1) → r ≡ looksFrom (card x) (echo (card x)) c b → Adding x (k + r) (i + 1)
+    unfolding looksTo looksAt
+    add-more c r z g = record { some = omega arith; within = omega arith; low = omega (arith, total, looks-most (card x) (i + 1)); sum = total }
+      where
+        E : ℕ → ℕ
+        E = echo (card x)
+
+        step : (i : ℕ) → 0 < i → looksTo (card x) E (suc i) ≡ looksTo (card x) E i + looksFrom (card x) E (card x (suc i)) (E i)
+        step zero p = absurd (omega arith)
+        step (suc i) p = refl
+
+        total : k + r ≡ looksTo (card x) E (i + 1)
+        total = rw add-one (omega (
+          arith,
+          adding .sum,
+          g,
+          step i (adding .some),
+          ap (looksFrom (card x) E c) add-echo,
+          ap (λ (d : ℕ). looksFrom (card x) E d (E i)) (z ∙ ap (card x) (add-one i)),
+        ))
+
+pub add-done : {x : List ℕ} {k i : ℕ} → Adding x k i → length x ≤ i → k ≡ looks x
+unfolding looks
+add-done {x} {k} {i} a h = let z : i ≡ length x = omega (arith, a .within) in a .sum ∙ ap (looksTo (card x) (echo (card x))) z
+
+pub add-none : (x : List ℕ) → length x ≡ 0 → 0 ≡ looks x
+unfolding looks looksTo
+add-none x z = sym (ap (looksTo (card x) (echo (card x))) z)
