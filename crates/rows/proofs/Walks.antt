@@ -5,18 +5,27 @@ use Prim.Native.Nat.{ℕ, zero, suc, _+_, _-_, _*_, _≤_, _<_}
 use native.Mathlib.Omega.{arith}
 use native.Mathlib.Numerals.{add-one}
 use lib.ListN.{length}
+use borrow.Author.Tests.{eq-eqb, ne-eqb}
 use Rattle.words.specs.Lists.{at, each, places, placed}
 use Rattle.words.specs.Rows.{card, Small, Alike, echo, echoes, looksFrom, looksAt, looksTo, looks}
+use Rattle.words.specs.Strips.{overlap}
 use Rattle.words.proofs.Lists.{either, same?, each-place, each-only, places-length, placed-long, placed-same, placed-other}
 use Rattle.words.proofs.Rows.{looks-zero}
-use Rattle.rows.specs.Border.{Known, grown, Filling, Adding}
+use Rattle.rows.specs.Border.{Known, grown, Filling, Adding, Overlapping, resumed}
 use Rattle.rows.proofs.Borders.{echo-below, echo-one, echo-small}
-use Rattle.rows.proofs.Growing.{grown-here, grown-end, grown-on, echo-next}
+use Rattle.rows.proofs.Growing.{grown-here, grown-end, grown-on, echo-next, overlap-closes, overlap-on, overlap-full}
 use Rattle.rows.proofs.Looking.{looks-hit, looks-on, looks-most}
 
 -- what is known up to i is known up to any b below it
 pub known-less : {X : ℕ → ℕ} {e : List ℕ} {i : ℕ} (b : ℕ) → Known X e i → b < i → Known X e b
 known-less b k h = record { long = omega (arith, k .long); right = record { same = λ j l. k .right .same j (omega arith) } }
+
+pub known-at : {X : ℕ → ℕ} {e : List ℕ} {b : ℕ} → Known X e b → 0 < b → at e b ≡ echo X b
+known-at {X} {e} {b} k h = go b k h
+  where
+    go : (b : ℕ) → Known X e b → 0 < b → at e b ≡ echo X b
+    go zero k h = absurd (omega arith)
+    go (suc b) k h = k .right .same b (omega arith)
 
 -- the cards in the code are at b + 1
 pub extend-here : (X : ℕ → ℕ) (b c v : ℕ) → v ≡ X (b + 1) → v ≡ c → b + 1 ≡ grown X b c
@@ -34,11 +43,7 @@ look-here X b c v e q = sym (looks-hit (echo-small X b) X c b (omega arith) (ap 
 -- the next number of a walk is the echo of b
 module _ {X : ℕ → ℕ} {e : List ℕ} {b : ℕ} (known : Known X e b) (y : ℕ) (is : y ≡ at e b) (some : b ≡ 0 → ⊥) where
   next-echo : y ≡ echo X b
-  next-echo = is ∙ go b known some
-    where
-      go : (b : ℕ) → Known X e b → (b ≡ 0 → ⊥) → at e b ≡ echo X b
-      go zero k d = absurd (d refl)
-      go (suc b) k d = k .right .same b (omega arith)
+  next-echo = is ∙ known-at known (omega arith)
 
   next-below : y < b
   next-below = omega (arith, next-echo, echo-below X b (omega arith))
@@ -144,11 +149,7 @@ module _ {x : List ℕ} {k i : ℕ} (adding : Adding x k i) (e : List ℕ) (whol
 
   module _ (b : ℕ) (is : b ≡ at e i) where
     add-echo : b ≡ echo (card x) i
-    add-echo = is ∙ go i (adding .some) inside
-      where
-        go : (i : ℕ) → 0 < i → i < length x → at e i ≡ echo (card x) i
-        go zero p h = absurd (omega arith)
-        go (suc i) p h = echoes-known x e whole .right .same i (omega arith)
+    add-echo = is ∙ known-at (known-less i (echoes-known x e whole) inside) (adding .some)
 
     pub add-inside : b < length x
     add-inside = omega (arith, add-echo, echo-below (card x) i (adding .some))
@@ -184,3 +185,65 @@ add-done {x} {k} {i} a h = let z : i ≡ length x = omega (arith, a .within) in 
 pub add-none : (x : List ℕ) → length x ≡ 0 → 0 ≡ looks x
 unfolding looks looksTo
 add-none x z = sym (ap (looksTo (card x) (echo (card x))) z)
+
+pub last-is : (x e : List ℕ) (r : ℕ) → e ≡ echoes x → 0 < length x → r ≡ at e (length x) → r ≡ echo (card x) (length x)
+last-is x e r q p z = z ∙ known-at (echoes-known x e q) p
+
+pub last-inside : (x e : List ℕ) → e ≡ echoes x → length x ≤ length e
+last-inside x e q = omega (arith, ap length q, echoes-long x)
+
+pub last-fits : (x e : List ℕ) (r : ℕ) → e ≡ echoes x → 0 < length x → r ≡ at e (length x) → r ≤ length x
+last-fits x e r q p z = omega (arith, last-is x e r q p z, echo-below (card x) (length x) p)
+
+-- the walk of the overlap resumes
+pub resume-full : (e : List ℕ) (b r : ℕ) → b ≡ length e → r ≡ at e b → r ≡ resumed (at e) (length e) b
+unfolding resumed
+resume-full e b r z q = q ∙ rw (eq-eqb b (length e) z)
+
+pub resume-on : (e : List ℕ) (b : ℕ) → (b ≡ length e → ⊥) → b ≡ resumed (at e) (length e) b
+unfolding resumed
+resume-on e b d = rw (ne-eqb b (length e) d)
+
+pub join-start : (x y e : List ℕ) → e ≡ echoes y → 0 < length y → Overlapping x y e 0 0
+join-start x y e q p = let (c, f) = overlap-closes (card x) 0 (card y) (length y) in record {
+  within = omega arith;
+  some = p;
+  whole = ap length q ∙ echoes-long y;
+  table = q;
+  fits = omega arith;
+  last = omega (arith, c .short);
+}
+
+module _ {x y e : List ℕ} {b i : ℕ} (joins : Overlapping x y e b i) (r : ℕ) (goes : r ≡ resumed (at e) (length e) b) where
+  resumes : (r < length y) × (overlap (card x) (suc i) (card y) (length y) ≡ grown (card y) r (card x (suc i)))
+  unfolding resumed
+  resumes = either (same? b (length e))
+      (λ z.
+      let w : r ≡ echo (card y) (length y) = goes ∙ rw (eq-eqb b (length e) z) (ap (at e) (z ∙ joins .whole) ∙ known-at (echoes-known y e (joins .table)) (joins .some)) in (
+        omega (arith, echo-below (card y) (length y) (joins .some)),
+        overlap-full (card x) i (card y) (length y) (joins .some) (sym (joins .last) ∙ z ∙ joins .whole) ∙ ap (λ (m : ℕ). grown (card y) m (card x (suc i))) (sym w),
+      ))
+      (λ d.
+      let w : r ≡ b = goes ∙ rw (ne-eqb b (length e) d) in
+      let l : b < length y = omega (arith, joins .fits, joins .whole) in (
+        omega arith,
+        overlap-on (card x) i (card y) (length y) (omega (arith, joins .last)) ∙ ap (λ (m : ℕ). grown (card y) m (card x (suc i))) (sym (joins .last) ∙ sym w),
+      ))
+
+  pub join-inside : r < length y
+  join-inside = resumes .0
+
+  pub join-known : Known (card y) e r
+  join-known = known-less r (echoes-known y e (joins .table)) join-inside
+
+  pub join-more : (c s : ℕ) → i < length x → c ≡ card x (i + 1) → s ≡ grown (card y) r c → Overlapping x y e s (i + 1)
+  join-more c s h z g =
+      let q : s ≡ overlap (card x) (i + 1) (card y) (length y) = g ∙ ap (grown (card y) r) (z ∙ ap (card x) (add-one i)) ∙ sym (resumes .1) ∙ rw add-one in
+      let (k, f) = overlap-closes (card x) (i + 1) (card y) (length y) in
+      record { within = omega arith; some = joins .some; whole = joins .whole; table = joins .table; fits = omega arith; last = q }
+
+pub join-done : {x y e : List ℕ} {b i : ℕ} → Overlapping x y e b i → length x ≤ i → b ≡ overlap (card x) (length x) (card y) (length y)
+join-done {x} {y} {e} {b} {i} j h = let z : i ≡ length x = omega (arith, j .within) in j .last ∙ ap (λ (m : ℕ). overlap (card x) m (card y) (length y)) z
+
+pub join-fits : (x y : List ℕ) (r : ℕ) → r ≡ overlap (card x) (length x) (card y) (length y) → r ≤ length y
+join-fits x y r q = let (c, f) = overlap-closes (card x) (length x) (card y) (length y) in omega arith

@@ -1,12 +1,13 @@
 -- Borders as relations, and what the walk along a chain finds. Assumes nothing: these are definitions.
 use mathlib.Core.Path.{_≡_}
-use mathlib.Core.Bool.{Bool, true}
+use mathlib.Core.Bool.{Bool, true, cond}
 use mathlib.Core.List.{List}
 use Prim.Native.Nat.{ℕ, zero, suc, _+_, _-_, _*_, _≤_, _<_}
 use lib.Dec.{eqb}
 use lib.ListN.{length}
 use Rattle.words.specs.Lists.{both, greatest, at}
-use Rattle.words.specs.Rows.{card, Alike, closes, echo, looksFrom, looksTo}
+use Rattle.words.specs.Rows.{card, Alike, closes, echo, echoes, looksFrom, looksTo}
+use Rattle.words.specs.Strips.{overlap}
 
 -- the first k cards of Y are the last k of X[1..i]: card j of Y is card h of X where j lies as far before k as h before i
 pub record Closes (Y X : ℕ → ℕ) (i k : ℕ) : Type 0 where
@@ -52,3 +53,16 @@ pub record Adding (x : List ℕ) (k i : ℕ) : Type 0 where
   pub within : i ≤ length x
   pub low : k ≤ 2 * i - 2
   pub sum : k ≡ looksTo (card x) (echo (card x)) i
+
+-- where the walk in a row of m cards goes on from b: from b, or from its last echo where b is the whole row
+unfoldable pub resumed : (ℕ → ℕ) → ℕ → ℕ → ℕ
+resumed E m b = let last = E b in cond (eqb b m) last b
+
+-- b is the overlap of the first i cards of x with y, whose echoes are e
+pub record Overlapping (x y e : List ℕ) (b i : ℕ) : Type 0 where
+  pub within : i ≤ length x
+  pub some : 0 < length y
+  pub whole : length e ≡ length y
+  pub table : e ≡ echoes y
+  pub fits : b ≤ length y
+  pub last : b ≡ overlap (card x) i (card y) (length y)

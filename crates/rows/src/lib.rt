@@ -6,7 +6,7 @@ ghost use Rattle.words.specs.Lists.{at, placed};
 ghost use Rattle.words.specs.Numbers.{limit};
 ghost use Rattle.words.specs.Rows.{card, echo, echoes as echoesOf, looksFrom, looks as looksOf};
 ghost use Rattle.words.specs.Strips.{overlap as overlapOf};
-ghost use Rattle.rows.specs.Border.{Known, Filling, grown};
+ghost use Rattle.rows.specs.Border.{Known, Filling, grown, resumed};
 
 // The card at place i.
 pub fn card_at(row: &[u8], i: usize) -> u8
@@ -109,4 +109,44 @@ pub fn looks(row: &[u8], e: &[u16]) -> usize
         i += 1;
     }
     k
+}
+
+// The echo of the last place of the row, with a table lent for all of them.
+pub fn last_echo(row: &[u8], table: &mut [u16]) -> usize
+    requires { ⌜ (0 < length (now row)) × (length (now table) ≡ length (now row)) × (length (now row) ≤ limit) ⌝ }
+    ensures { λ r. ⌜ (r ≡ echo (card (now (row .entry))) (length (now (row .entry)))) × (r ≤ length (now (row .entry))) ⌝ }
+{
+    echoes(row, table);
+    echo_at(table, row.len())
+}
+
+// Where the walk in a row with the echoes e goes on from b: from b, or from the last echo where b is the whole row.
+fn resume(e: &[u16], b: usize) -> usize
+    requires { ⌜ (0 < length (now e)) × (b ≤ length (now e)) ⌝ }
+    ensures { λ r. ⌜ r ≡ resumed (at (now (e .entry))) (length (now (e .entry))) b ⌝ }
+{
+    if b == e.len() { echo_at(e, b) } else { b }
+}
+
+// The overlap of the left row with the right one, whose echoes are e.
+fn overlapping(left: &[u8], right: &[u8], e: &[u16]) -> usize
+    requires { ⌜ (now e ≡ echoesOf (now right)) × (0 < length (now right)) ⌝ }
+    ensures { λ r. ⌜ r ≡ overlapOf (card (now (left .entry))) (length (now (left .entry))) (card (now (right .entry))) (length (now (right .entry))) ⌝ }
+{
+    let mut b = 0;
+    let mut i = 0;
+    while i < left.len() {
+        b = extend(right, e, resume(e, b), card_at(left, i + 1));
+        i += 1;
+    }
+    b
+}
+
+// The greatest length at which the left row's end equals the right row's opening, with a table lent for the echoes of the right one.
+pub fn overlap(left: &[u8], right: &[u8], table: &mut [u16]) -> usize
+    requires { ⌜ (0 < length (now right)) × (length (now table) ≡ length (now right)) × (length (now right) ≤ limit) ⌝ }
+    ensures { λ r. ⌜ (r ≡ overlapOf (card (now (left .entry))) (length (now (left .entry))) (card (now (right .entry))) (length (now (right .entry)))) × (r ≤ length (now (right .entry))) ⌝ }
+{
+    echoes(right, table);
+    overlapping(left, right, table)
 }
