@@ -6,10 +6,13 @@ use words::CARD;
 use words::DONE;
 use words::FIRST_LETTER;
 use words::LETTERS;
+use words::LIMIT;
 use words::LONG;
 use words::MISMATCH;
 ghost use mathlib.Core.Path.{_≡_};
-ghost use Rattle.words.specs.Numbers.{letter as letterOf, outside as outsideOf, named as namedOf, alphabet as alphabetOf, long as longOf, matching as matchingOf, cards as cardsOf};
+ghost use Rattle.words.specs.Numbers.{letter as letterOf, outside as outsideOf, named as namedOf, alphabet as alphabetOf, long as longOf, matching as matchingOf, cards as cardsOf, sizes as sizesOf, lent as lentOf, refusal};
+ghost use mathlib.Core.List.{[], _∷_};
+ghost use lib.ListN.{length};
 
 // The number n at place p, or done where p is 0.
 pub fn named(n: u8, p: usize) -> Answer
@@ -115,4 +118,48 @@ pub fn cards(a: usize, row: &[u8]) -> Answer
     ensures { λ r. ⌜ (r .number, r .place) ≡ cardsOf a (now (row .entry)) ⌝ }
 {
     named(CARD, outside(a, row))
+}
+
+// 1, then 2: the alphabet, and the length n of a row or array.
+pub fn sizes(a: usize, n: usize) -> Answer
+    ensures { λ r. ⌜ (r .number, r .place) ≡ sizesOf a n ⌝ }
+{
+    let r = alphabet(a);
+    if r.number != DONE {
+        return r;
+    }
+    long(LIMIT, n)
+}
+
+// 1, 2, then 3: and a lent slice of m entries that must have n.
+pub fn lent(a: usize, n: usize, m: usize) -> Answer
+    ensures { λ r. ⌜ (r .number, r .place) ≡ lentOf a n m ⌝ }
+{
+    let r = sizes(a, n);
+    if r.number != DONE {
+        return r;
+    }
+    matching(n, m)
+}
+
+// 1, 2, then 4: a row.
+pub fn whole_row(a: usize, row: &[u8]) -> Answer
+    ensures { λ r. ⌜ (r .number, r .place) ≡ refusal (sizesOf a (length (now (row .entry))) ∷ cardsOf a (now (row .entry)) ∷ []) ⌝ }
+{
+    let r = sizes(a, row.len());
+    if r.number != DONE {
+        return r;
+    }
+    cards(a, row)
+}
+
+// 1, 2, 3, then 4: a row beside a lent slice of m entries.
+pub fn row_and_slice(a: usize, row: &[u8], m: usize) -> Answer
+    ensures { λ r. ⌜ (r .number, r .place) ≡ refusal (lentOf a (length (now (row .entry))) m ∷ cardsOf a (now (row .entry)) ∷ []) ⌝ }
+{
+    let r = lent(a, row.len(), m);
+    if r.number != DONE {
+        return r;
+    }
+    cards(a, row)
 }

@@ -150,3 +150,12 @@ pub fn overlap(left: &[u8], right: &[u8], table: &mut [u16]) -> usize
     echoes(right, table);
     overlapping(left, right, table)
 }
+
+// The looks of the row, with a table lent for its echoes.
+pub fn row_looks(row: &[u8], table: &mut [u16]) -> usize
+    requires { ⌜ (length (now table) ≡ length (now row)) × (length (now row) ≤ limit) ⌝ }
+    ensures { λ r. ⌜ (r ≡ looksOf (now (row .entry))) × (r ≤ 8190) ⌝ }
+{
+    echoes(row, table);
+    looks(row, table)
+}

@@ -1,16 +1,17 @@
 -- Laws of the checks: each number is given exactly when its table says so, and the first check that is not done answers. Assumes nothing.
-use mathlib.Core.Path.{_≡_, refl, sym, ap, _∙_}
+use mathlib.Core.Path.{_≡_, refl, sym, ap, subst, _∙_}
 use mathlib.Core.Bool.{Bool, true, false, not}
 use mathlib.Core.List.{List, [], _∷_}
 use Prim.Native.Nat.{ℕ, zero, suc, _+_, _-_, _≤_, _<_}
 use native.Mathlib.Omega.{arith}
 use lib.Dec.{ltb, leb, eqb}
 use lib.ListN.{length}
-use borrow.Author.Tests.{eq-eqb, ne-eqb, le-leb, lt-leb, lt-ltb, le-ltb}
+use borrow.Author.Tests.{eq-eqb, ne-eqb, le-leb, lt-leb, lt-ltb, le-ltb, leb-true, eqb-true}
 use Rattle.words.specs.Lists.{both, firstOf, run, places}
 use Rattle.words.specs.Rows.{card}
-use Rattle.words.specs.Numbers.{DONE, ALPHABET, LONG, MISMATCH, CARD, letters, firstLetter, letter, foreign, outside, named, unless, alphabet, long, matching, cards, refusal}
-use Rattle.words.proofs.Lists.{both-true, both-left, both-right, first-start, first-here, first-more, first-none}
+use Rattle.words.specs.Outcomes.{kept, given, answered, counted}
+use Rattle.words.specs.Numbers.{DONE, ALPHABET, LONG, MISMATCH, CARD, letters, firstLetter, letter, foreign, outside, named, unless, alphabet, long, matching, cards, refusal, sizes, lent, limit}
+use Rattle.words.proofs.Lists.{which, either, same?, both-out, both-true, both-left, both-right, first-start, first-here, first-more, first-none}
 
 pub alphabet-done : (A : ℕ) → (A ≡ 0 → ⊥) → A ≤ letters → (DONE, 0) ≡ alphabet A
 unfolding alphabet unless
@@ -48,14 +49,53 @@ pub named-place : (n p : ℕ) → (p ≡ 0 → ⊥) → (n, p) ≡ named n p
 unfolding named
 named-place n p h = rw (ne-eqb p 0 h)
 
--- the first check that is not done answers; a check that is done hands on to those behind it
-pub refusal-stop : (c : ℕ × ℕ) (l : List (ℕ × ℕ)) → (c .0 ≡ DONE → ⊥) → c ≡ refusal (c ∷ l)
+-- the first check that is not done answers; one that is done hands on to those behind it
+pub refusal-stop : (c d r : ℕ × ℕ) (l : List (ℕ × ℕ)) → r ≡ c → (r .0 ≡ DONE → ⊥) → r ≡ refusal (c ∷ d ∷ l)
 unfolding refusal
-refusal-stop c l h = rw (ne-eqb (c .0) DONE h)
+refusal-stop c d r l e n = e ∙ rw (ne-eqb (c .0) DONE (λ z. n (ap (λ (p : ℕ × ℕ). p .0) e ∙ z)))
 
-pub refusal-on : (c : ℕ × ℕ) (l : List (ℕ × ℕ)) → c .0 ≡ DONE → refusal l ≡ refusal (c ∷ l)
+pub refusal-on : (c d r s : ℕ × ℕ) (l : List (ℕ × ℕ)) → r ≡ c → r .0 ≡ DONE → s ≡ refusal (d ∷ l) → s ≡ refusal (c ∷ d ∷ l)
 unfolding refusal
-refusal-on c l h = rw (eq-eqb (c .0) DONE h)
+refusal-on c d r s l e z q = q ∙ rw (eq-eqb (c .0) DONE (ap (λ (p : ℕ × ℕ). p .0) (sym e) ∙ z))
+
+pub refusal-last : (c d r s : ℕ × ℕ) → r ≡ c → r .0 ≡ DONE → s ≡ d → s ≡ refusal (c ∷ d ∷ [])
+unfolding refusal
+refusal-last c d r s e z q = refusal-on c d r s [] e z q
+
+-- where none refuses each check is done
+pub refusal-clear : (c d : ℕ × ℕ) (l : List (ℕ × ℕ)) → refusal (c ∷ d ∷ l) .0 ≡ DONE → (c .0 ≡ DONE) × (refusal (d ∷ l) .0 ≡ DONE)
+unfolding refusal
+refusal-clear c d l z = either (same? (c .0) DONE)
+    (λ e. (e, rw (eq-eqb (c .0) DONE e) at z))
+    (λ n. absurd (n (rw (ne-eqb (c .0) DONE n) at z)))
+
+pub long-clear : (most n : ℕ) → long most n .0 ≡ DONE → n ≤ most
+unfolding long unless
+long-clear most n z = either (which (leb n most)) (λ t. leb-true n most t) (λ f. absurd (omega (arith, rw f at z)))
+
+pub matching-clear : (n m : ℕ) → matching n m .0 ≡ DONE → m ≡ n
+unfolding matching unless
+matching-clear n m z = either (which (eqb m n)) (λ t. eqb-true m n t) (λ f. absurd (omega (arith, rw f at z)))
+
+pub alphabet-clear : (A : ℕ) → alphabet A .0 ≡ DONE → (0 < A) × (A ≤ letters)
+unfolding alphabet unless
+alphabet-clear A z = either (which (both (leb 1 A) (leb A letters)))
+    (λ t. let (p, q) = both-out (leb 1 A) (leb A letters) t in (leb-true 1 A p, leb-true A letters q))
+    (λ f. absurd (omega (arith, rw f at z)))
+
+pub sizes-clear : (A n : ℕ) → sizes A n .0 ≡ DONE → (0 < A) × (A ≤ letters) × (n ≤ limit)
+unfolding refusal
+sizes-clear A n z =
+    let (p, q) = refusal-clear (alphabet A) (long limit n) [] z in
+    let (s, t) = alphabet-clear A p in
+    (s, t, long-clear limit n q)
+
+pub lent-clear : (A n m : ℕ) → lent A n m .0 ≡ DONE → (0 < A) × (A ≤ letters) × (n ≤ limit) × (m ≡ n)
+unfolding refusal
+lent-clear A n m z =
+    let (p, q) = refusal-clear (sizes A n) (matching n m) [] z in
+    let (s, t, l) = sizes-clear A n p in
+    (s, t, l, matching-clear n m q)
 
 pub letter-below : (A c : ℕ) → c < firstLetter → false ≡ letter A c
 unfolding letter
@@ -90,3 +130,21 @@ module _ (A : ℕ) (x : List ℕ) (i : ℕ) (left : outside A x ≡ firstOf (for
 pub cards-named : (A : ℕ) (x : List ℕ) (p : ℕ) (r : ℕ × ℕ) → p ≡ outside A x → r ≡ named CARD p → r ≡ cards A x
 unfolding cards
 cards-named A x p r e h = h ∙ ap (named CARD) e
+
+-- an answer with a buffer: every number but 0 leaves it as it came; with 0 it holds the new contents
+pub answered-old : (n p : ℕ) (R : ℕ × ℕ) (new old : List ℕ) → (n, p) ≡ R → (n ≡ DONE → ⊥) → (n, p, old) ≡ answered R new old
+unfolding answered kept
+answered-old n p R new old e d = subst (λ (S : ℕ × ℕ). (n, p, old) ≡ answered S new old) e (rw (ne-eqb n DONE d))
+
+pub answered-new : (n p : ℕ) (R : ℕ × ℕ) (new old out : List ℕ) → (n, p) ≡ R → n ≡ DONE → out ≡ new → (n, p, out) ≡ answered R new old
+unfolding answered kept
+answered-new n p R new old out e z q = subst (λ (S : ℕ × ℕ). (n, p, out) ≡ answered S new old) e (rw (eq-eqb n DONE z) (rw q))
+
+-- an answer with a count: it is 0 beside every number but 0
+pub counted-none : (n p : ℕ) (R : ℕ × ℕ) (k : ℕ) → (n, p) ≡ R → (n ≡ DONE → ⊥) → (n, p, 0) ≡ counted R k
+unfolding counted given
+counted-none n p R k e d = subst (λ (S : ℕ × ℕ). (n, p, 0) ≡ counted S k) e (rw (ne-eqb n DONE d))
+
+pub counted-some : (n p : ℕ) (R : ℕ × ℕ) (k m : ℕ) → (n, p) ≡ R → n ≡ DONE → m ≡ k → (n, p, m) ≡ counted R k
+unfolding counted given
+counted-some n p R k m e z q = subst (λ (S : ℕ × ℕ). (n, p, m) ≡ counted S k) e (rw (eq-eqb n DONE z) (rw q))

@@ -10,7 +10,7 @@ use Rattle.words.specs.Numbers.{DONE, IMPOSSIBLE, HIDDEN, FULL, LAST, le
 use Rattle.words.specs.Stand.{possible, hidden, opens, weight, weighed, numberAt, fails, firstBad, verdict}
 use Rattle.words.specs.Least.{leastNot, freeLetter, nextCard, rebuilt}
 use Rattle.words.specs.Listing.{more, values, listing, countFrom, standing, count, head, behind}
-use Rattle.words.specs.Outcomes.{kept, given, echoes-outcome, reach-outcome, looks-outcome, judge-outcome, count-outcome, rebuild-checks, next-checks, rebuild-rule, next-rule}
+use Rattle.words.specs.Outcomes.{kept, given, answered, counted, echoes-outcome, reach-outcome, looks-outcome, judge-outcome, count-outcome, rebuild-rule, next-rule}
 
 -- what 01 says of a row or an array over A
 pub data Case : Type 0 where
@@ -91,5 +91,5 @@ unfolding table p4 p9 holds tells answers blank
     possible hidden opens weight weighed numberAt fails firstBad verdict
     leastNot freeLetter nextCard rebuilt
     more values listing countFrom standing count head behind
-    kept given echoes-outcome reach-outcome looks-outcome judge-outcome count-outcome rebuild-checks next-checks rebuild-rule next-rule
+    kept given answered counted echoes-outcome reach-outcome looks-outcome judge-outcome count-outcome rebuild-rule next-rule
 corridors = refl

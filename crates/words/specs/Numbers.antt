@@ -108,7 +108,16 @@ matching n m = unless (eqb m n) MISMATCH
 unfoldable pub cards : ℕ → List ℕ → ℕ × ℕ
 cards A x = named CARD (outside A x)
 
--- the first check in the list that is not done; done where each is
+-- the first check in the list that is not done; the last one where all before it are
 unfoldable pub refusal : List (ℕ × ℕ) → ℕ × ℕ
 refusal [] = (DONE, 0)
-refusal (c ∷ l) = let r = refusal l in cond (eqb (c .0) DONE) r c
+refusal (c ∷ []) = c
+refusal (c ∷ d ∷ l) = let r = refusal (d ∷ l) in cond (eqb (c .0) DONE) r c
+
+-- 1, then 2: the alphabet, and the length n of a row or array
+abbrev pub sizes : ℕ → ℕ → ℕ × ℕ
+sizes A n = refusal (alphabet A ∷ long limit n ∷ [])
+
+-- 1, 2, then 3: and a lent slice of m entries that must have n
+abbrev pub lent : ℕ → ℕ → ℕ → ℕ × ℕ
+lent A n m = refusal (sizes A n ∷ matching n m ∷ [])

@@ -9,7 +9,7 @@ use lib.Dec.{leb, eqb}
 use lib.ListN.{length, drop}
 use Rattle.words.specs.Lists.{at}
 use Rattle.words.specs.Rows.{echoes, reaches, looks}
-use Rattle.words.specs.Numbers.{DONE, MISMATCH, ROOM, LAST, DIFFERS, limit, countLimit, differing, named, unless, alphabet, long, matching, cards, refusal}
+use Rattle.words.specs.Numbers.{DONE, MISMATCH, ROOM, LAST, DIFFERS, limit, countLimit, differing, named, unless, alphabet, long, matching, cards, refusal, sizes, lent}
 use Rattle.words.specs.Stand.{Stands, verdict}
 use Rattle.words.specs.Least.{before, LeastRow, rebuilt}
 use Rattle.words.specs.Listing.{standing, listing, count, First, Next, StandsAfter, head, behind}
@@ -23,87 +23,75 @@ kept r new old = cond (eqb (r .0) DONE) new old
 unfoldable pub given : ℕ × ℕ → ℕ → ℕ
 given r k = cond (eqb (r .0) DONE) k 0
 
+-- an answer with a buffer: number, place, contents; and with a count: number, place, count
+unfoldable pub answered : ℕ × ℕ → List ℕ → List ℕ → ℕ × ℕ × List ℕ
+answered r new old = (r .0, r .1, kept r new old)
+
+unfoldable pub counted : ℕ × ℕ → ℕ → ℕ × ℕ × ℕ
+counted r k = (r .0, r .1, given r k)
+
 -- echoes: number, place, buffer
 unfoldable pub echoes-outcome : ℕ → List ℕ → List ℕ → ℕ × ℕ × List ℕ
-echoes-outcome A x old =
-    let r = refusal (alphabet A ∷ long limit (length x) ∷ matching (length x) (length old) ∷ cards A x ∷ []) in
-    (r .0, r .1, kept r (echoes x) old)
+echoes-outcome A x old = answered (refusal (lent A (length x) (length old) ∷ cards A x ∷ [])) (echoes x) old
 
 -- reach: number, place, buffer
 unfoldable pub reach-outcome : ℕ → List ℕ → List ℕ → ℕ × ℕ × List ℕ
-reach-outcome A x old =
-    let r = refusal (alphabet A ∷ long limit (length x) ∷ matching (length x) (length old) ∷ cards A x ∷ []) in
-    (r .0, r .1, kept r (reaches x) old)
+reach-outcome A x old = answered (refusal (lent A (length x) (length old) ∷ cards A x ∷ [])) (reaches x) old
 
 -- looks: number, place, count
 unfoldable pub looks-outcome : ℕ → List ℕ → ℕ × ℕ × ℕ
-looks-outcome A x =
-    let r = refusal (alphabet A ∷ long limit (length x) ∷ cards A x ∷ []) in
-    (r .0, r .1, given r (looks x))
+looks-outcome A x = counted (refusal (sizes A (length x) ∷ cards A x ∷ [])) (looks x)
 
 -- sheet: number, place, length, buffer; the bytes behind the sheet stay
 unfoldable pub sheet-outcome : ℕ → List ℕ → List ℕ → ℕ × ℕ × ℕ × List ℕ
 sheet-outcome A x old =
     let t = sheet A x in
-    let r = refusal (alphabet A ∷ long limit (length x) ∷ cards A x ∷ unless (leb (length t) (length old)) ROOM ∷ []) in
+    let r = refusal (sizes A (length x) ∷ cards A x ∷ unless (leb (length t) (length old)) ROOM ∷ []) in
     (r .0, r .1, given r (length t), kept r (t ++ drop (length t) old) old)
 
 -- guess: number and place; g is the guess at the hidden row x
 unfoldable pub guess-outcome : ℕ → List ℕ → List ℕ → ℕ × ℕ
 guess-outcome A x g = refusal (
-    alphabet A ∷ long limit (length x) ∷ long limit (length g) ∷ matching (length x) (length g) ∷ cards A x ∷ cards A g
+    sizes A (length x) ∷ long limit (length g) ∷ matching (length x) (length g) ∷ cards A x ∷ cards A g
     ∷ named DIFFERS (differing (echoes x) (echoes g)) ∷ []
     )
 
 -- judge: number and place
 unfoldable pub judge-outcome : ℕ → List ℕ → ℕ × ℕ
-judge-outcome A e = refusal (alphabet A ∷ long limit (length e) ∷ verdict A e ∷ [])
+judge-outcome A e = refusal (sizes A (length e) ∷ verdict A e ∷ [])
 
 -- count: number, place, count
 unfoldable pub count-outcome : ℕ → ℕ → ℕ × ℕ × ℕ
-count-outcome A n = let r = refusal (alphabet A ∷ long countLimit n ∷ []) in (r .0, r .1, given r (count A n))
-
--- what rebuild and next ask before they judge, and what first asks
-unfoldable pub rebuild-checks : ℕ → List ℕ → List ℕ → ℕ × ℕ
-rebuild-checks A e old = refusal (alphabet A ∷ long limit (length e) ∷ matching (length e) (length old) ∷ [])
-
-unfoldable pub next-checks : ℕ → List ℕ → ℕ × ℕ
-next-checks A e = refusal (alphabet A ∷ long limit (length e) ∷ [])
-
-unfoldable pub first-checks : ℕ → ℕ → List ℕ → ℕ × ℕ
-first-checks A n old = refusal (alphabet A ∷ long limit n ∷ matching n (length old) ∷ [])
+count-outcome A n = counted (refusal (alphabet A ∷ long countLimit n ∷ [])) (count A n)
 
 -- rebuild: an array that stands gives the least row; one that does not, its verdict, and the buffer as it came
 pub data Rebuilds (A : ℕ) (e old : List ℕ) (r : ℕ × ℕ) (new : List ℕ) : Type 0 where
-  refuses : (r .0 ≡ DONE → ⊥) → r ≡ rebuild-checks A e old → new ≡ old → Rebuilds A e old r new
-  breaks : rebuild-checks A e old ≡ (DONE, 0) → (Stands A e → ⊥) → r ≡ verdict A e → new ≡ old → Rebuilds A e old r new
-  rebuilds : rebuild-checks A e old ≡ (DONE, 0) → LeastRow A e new → r ≡ (DONE, 0) → Rebuilds A e old r new
+  refuses : (r .0 ≡ DONE → ⊥) → r ≡ lent A (length e) (length old) → new ≡ old → Rebuilds A e old r new
+  breaks : lent A (length e) (length old) ≡ (DONE, 0) → (Stands A e → ⊥) → r ≡ verdict A e → new ≡ old → Rebuilds A e old r new
+  rebuilds : lent A (length e) (length old) ≡ (DONE, 0) → LeastRow A e new → r ≡ (DONE, 0) → Rebuilds A e old r new
 
 unfoldable pub rebuild-rule : ℕ → List ℕ → List ℕ → ℕ × ℕ × List ℕ
-rebuild-rule A e old =
-    let r = refusal (rebuild-checks A e old ∷ verdict A e ∷ []) in
-    (r .0, r .1, kept r (rebuilt (at e) (length e)) old)
+rebuild-rule A e old = answered (refusal (lent A (length e) (length old) ∷ verdict A e ∷ [])) (rebuilt (at e) (length e)) old
 
 -- first: the least standing array of n places
 pub data Starts (A n : ℕ) (old : List ℕ) (r : ℕ × ℕ) (new : List ℕ) : Type 0 where
-  refuses : (r .0 ≡ DONE → ⊥) → r ≡ first-checks A n old → new ≡ old → Starts A n old r new
-  starts : first-checks A n old ≡ (DONE, 0) → First A n new → r ≡ (DONE, 0) → Starts A n old r new
+  refuses : (r .0 ≡ DONE → ⊥) → r ≡ lent A n (length old) → new ≡ old → Starts A n old r new
+  starts : lent A n (length old) ≡ (DONE, 0) → First A n new → r ≡ (DONE, 0) → Starts A n old r new
 
 unfoldable pub first-rule : ℕ → ℕ → List ℕ → ℕ × ℕ × List ℕ
-first-rule A n old = let r = first-checks A n old in (r .0, r .1, kept r (head (listing (standing A) n [])) old)
+first-rule A n old = answered (lent A n (length old)) (head (listing (standing A) n [])) old
 
 -- next: the least standing array of the same length that is greater; 9 where there is none; one that does not stand, its verdict
 pub data Steps (A : ℕ) (e : List ℕ) (r : ℕ × ℕ) (new : List ℕ) : Type 0 where
-  refuses : (r .0 ≡ DONE → ⊥) → r ≡ next-checks A e → new ≡ e → Steps A e r new
-  breaks : next-checks A e ≡ (DONE, 0) → (Stands A e → ⊥) → r ≡ verdict A e → new ≡ e → Steps A e r new
-  ends : next-checks A e ≡ (DONE, 0) → Stands A e → ((z : List ℕ) → StandsAfter A e z → ⊥) → r ≡ (LAST, 0) → new ≡ e → Steps A e r new
-  steps : next-checks A e ≡ (DONE, 0) → Stands A e → Next A e new → r ≡ (DONE, 0) → Steps A e r new
+  refuses : (r .0 ≡ DONE → ⊥) → r ≡ sizes A (length e) → new ≡ e → Steps A e r new
+  breaks : sizes A (length e) ≡ (DONE, 0) → (Stands A e → ⊥) → r ≡ verdict A e → new ≡ e → Steps A e r new
+  ends : sizes A (length e) ≡ (DONE, 0) → Stands A e → ((z : List ℕ) → StandsAfter A e z → ⊥) → r ≡ (LAST, 0) → new ≡ e → Steps A e r new
+  steps : sizes A (length e) ≡ (DONE, 0) → Stands A e → Next A e new → r ≡ (DONE, 0) → Steps A e r new
 
 unfoldable pub next-rule : ℕ → List ℕ → ℕ × ℕ × List ℕ
 next-rule A e =
     let l = behind e (listing (standing A) (length e) []) in
-    let r = refusal (next-checks A e ∷ verdict A e ∷ unless (leb 1 (length l)) LAST ∷ []) in
-    (r .0, r .1, kept r (head l) e)
+    answered (refusal (sizes A (length e) ∷ verdict A e ∷ unless (leb 1 (length l)) LAST ∷ [])) (head l) e
 
 -- the array that bytes stand for: two bytes an echo, low byte first
 unfoldable pub decoded : List ℕ → List ℕ
@@ -114,7 +102,7 @@ decoded (low ∷ high ∷ l) = (low + 256 * high) ∷ decoded l
 -- the C functions: number + 256 * place, and number + 4 * count
 unfoldable pub host-judge-outcome : ℕ → ℕ → List ℕ → ℕ
 host-judge-outcome A n bytes =
-    let r = refusal (alphabet A ∷ long limit n ∷ matching (2 * n) (length bytes) ∷ verdict A (decoded bytes) ∷ []) in
+    let r = refusal (sizes A n ∷ matching (2 * n) (length bytes) ∷ verdict A (decoded bytes) ∷ []) in
     r .0 + 256 * r .1
 
 unfoldable pub host-count-outcome : ℕ → ℕ → ℕ
