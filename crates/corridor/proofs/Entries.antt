@@ -11,11 +11,11 @@ use borrow.Author.Tests.{le-leb, lt-leb}
 use Rattle.words.specs.Lists.{both}
 use Rattle.words.specs.Rows.{card, echo}
 use Rattle.words.specs.Numbers.{DONE, limit, cards, refusal, sizes, lent}
-use Rattle.words.specs.Strips.{closing, joining, overlap}
+use Rattle.words.specs.Strips.{closed, closing, overlap, joint, joining}
 use Rattle.words.proofs.Lists.{both-true, both-left, both-right, both-out, which, either}
 use Rattle.words.proofs.Checks.{refusal-clear, sizes-clear, lent-clear}
 use Rattle.rows.proofs.Borders.{echo-zero}
-use Rattle.rows.proofs.Walks.{join-fits}
+use Rattle.rows.proofs.Growing.{overlap-closes}
 
 -- the first n entries of a table at the limit
 pub prefix-long : (n : ℕ) (l : List ℕ) → n ≤ limit → length l ≡ limit → length (take n l) ≡ n
@@ -35,43 +35,52 @@ module _ (n p A : ℕ) (x : List ℕ) (done : n ≡ DONE) where
   pub lent-matches : (m : ℕ) → (n, p) ≡ refusal (lent A (length x) m ∷ cards A x ∷ []) → m ≡ length x
   lent-matches m e = lent-clear A (length x) m (first (lent A (length x) m) e) .3
 
--- the part of a row from its place n + 1 on
-part-from : (x : List ℕ) (n : ℕ) → take (length x - n) (drop n x) ≡ drop n x
-part-from x n = take-all (length x - n) (drop n x) (omega (arith, length-drop n x))
+-- the strips by their lengths
+pub closed-none : (x : List ℕ) → length x ≡ 0 → 0 ≡ closed x
+unfolding closed
+closed-none x z = rw (le-leb (length x) limit (omega arith)) (sym (ap (echo (card x)) z ∙ echo-zero (card x)))
 
-closing-is : (x : List ℕ) (k : ℕ) → k ≡ cond (leb (length x) limit) (echo (card x) (length x)) 0 → take (length x - (length x - k)) (drop (length x - k) x) ≡ closing x
+pub closed-over : (x : List ℕ) → limit < length x → 0 ≡ closed x
+unfolding closed
+closed-over x l = rw (lt-leb (length x) limit l)
+
+pub closed-by : (x : List ℕ) (k : ℕ) → length x ≤ limit → k ≡ echo (card x) (length x) → k ≡ closed x
+unfolding closed
+closed-by x k l q = rw (le-leb (length x) limit l) q
+
+pub closing-by : (x : List ℕ) (k : ℕ) → k ≡ closed x → take (length x - (length x - k)) (drop (length x - k) x) ≡ closing x
 unfolding closing
-closing-is x k q = part-from x (length x - k) ∙ ap (λ (m : ℕ). drop (length x - m) x) q
+closing-by x k q = let n = length x - k in take-all (length x - n) (drop n x) (omega (arith, length-drop n x)) ∙ ap (λ (m : ℕ). drop (length x - m) x) q
 
-closing-nothing : (x : List ℕ) → 0 ≡ cond (leb (length x) limit) (echo (card x) (length x)) 0 → take (length x - length x) (drop (length x) x) ≡ closing x
-closing-nothing x q = let z : length x - 0 ≡ length x = omega arith in subst (λ (m : ℕ). take (length x - m) (drop m x) ≡ closing x) z (closing-is x 0 q)
+module _ (x y : List ℕ) where
+  pub joint-none : length y ≡ 0 → 0 ≡ joint x y
+  unfolding joint
+  joint-none z = either (which (both (leb (length x) limit) (leb (length y) limit)))
+      (λ t. rw t (omega (arith, overlap-closes (card x) (length x) (card y) (length y))))
+      (λ f. rw f)
 
-pub closing-none : (x : List ℕ) → length x ≡ 0 → take (length x - length x) (drop (length x) x) ≡ closing x
-closing-none x z = closing-nothing x (rw (le-leb (length x) limit (omega arith)) (sym (ap (echo (card x)) z ∙ echo-zero (card x))))
+  pub joint-right : limit < length y → 0 ≡ joint x y
+  unfolding joint
+  joint-right l = rw (both-right (leb (length x) limit) (leb (length y) limit) (lt-leb (length y) limit l))
 
-pub closing-over : (x : List ℕ) → limit < length x → take (length x - length x) (drop (length x) x) ≡ closing x
-closing-over x l = closing-nothing x (rw (lt-leb (length x) limit l))
+  pub joint-left : limit < length x → 0 ≡ joint x y
+  unfolding joint
+  joint-left l = rw (both-left (leb (length x) limit) (leb (length y) limit) (lt-leb (length x) limit l))
 
-pub closing-by : (x : List ℕ) (k : ℕ) → length x ≤ limit → k ≡ echo (card x) (length x) → take (length x - (length x - k)) (drop (length x - k) x) ≡ closing x
-closing-by x k l q = closing-is x k (rw (le-leb (length x) limit l) q)
+  module _ (k : ℕ) (is : k ≡ overlap (card x) (length x) (card y) (length y)) where
+    pub joint-by : length x ≤ limit → length y ≤ limit → k ≡ joint x y
+    unfolding joint
+    joint-by l m = rw (both-true (leb (length x) limit) (leb (length y) limit) (le-leb (length x) limit l) (le-leb (length y) limit m)) is
 
-joining-is : (x y : List ℕ) (k : ℕ) → k ≡ cond (both (leb (length x) limit) (leb (length y) limit)) (overlap (card x) (length x) (card y) (length y)) 0 → take k y ≡ joining x y
-unfolding joining
-joining-is x y k q = ap (λ (m : ℕ). take m y) q
+    pub joint-fits-left : k ≤ length x
+    joint-fits-left = let (c, f) = overlap-closes (card x) (length x) (card y) (length y) in omega (arith, c .short)
 
-pub joining-none : (x y : List ℕ) → length y ≡ 0 → take 0 y ≡ joining x y
-joining-none x y z = joining-is x y 0 (either (which (both (leb (length x) limit) (leb (length y) limit)))
-    (λ t. rw t (omega (arith, join-fits x y (overlap (card x) (length x) (card y) (length y)) refl)))
-    (λ f. rw f))
+    pub joint-fits-right : k ≤ length y
+    joint-fits-right = let (c, f) = overlap-closes (card x) (length x) (card y) (length y) in omega arith
 
-pub joining-right : (x y : List ℕ) → limit < length y → take 0 y ≡ joining x y
-joining-right x y l = joining-is x y 0 (rw (both-right (leb (length x) limit) (leb (length y) limit) (lt-leb (length y) limit l)))
-
-pub joining-left : (x y : List ℕ) → limit < length x → take 0 y ≡ joining x y
-joining-left x y l = joining-is x y 0 (rw (both-left (leb (length x) limit) (leb (length y) limit) (lt-leb (length x) limit l)))
-
-pub joining-by : (x y : List ℕ) (k : ℕ) → length x ≤ limit → length y ≤ limit → k ≡ overlap (card x) (length x) (card y) (length y) → take k y ≡ joining x y
-joining-by x y k l m q = joining-is x y k (rw (both-true (leb (length x) limit) (leb (length y) limit) (le-leb (length x) limit l) (le-leb (length y) limit m)) q)
+  pub joining-by : (k : ℕ) → k ≡ joint x y → take k y ≡ joining x y
+  unfolding joining
+  joining-by k q = ap (λ (m : ℕ). take m y) q
 
 pub part-long : (k : ℕ) (l : List ℕ) → k ≤ length l → k ≡ length (take k l)
 part-long k l h = sym (length-take-le k l h)

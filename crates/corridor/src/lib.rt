@@ -8,7 +8,7 @@ ghost use Prim.Native.Nat.{_≤_, _<_};
 ghost use lib.ListN.{length};
 ghost use Rattle.words.specs.Numbers.{limit};
 ghost use Rattle.words.specs.Rows.{card, echo, looks as looksOf};
-ghost use Rattle.words.specs.Strips.{closing as closingOf, joining as joiningOf, overlap as overlapOf};
+ghost use Rattle.words.specs.Strips.{closed, closing as closingOf, overlap, joint, joining as joiningOf};
 ghost use Rattle.words.specs.Outcomes.{echoes-outcome, looks-outcome};
 
 // A number and its place; 0 at place 0 is done.
@@ -76,44 +76,56 @@ fn last_within(row: &[u8]) -> usize
     rows::last_echo(row, &mut table[..n])
 }
 
+// The length of the closing strip.
+fn closing_length(row: &[u8]) -> usize
+    ensures { λ r. ⌜ (r ≡ closed (now (row .entry))) × (r ≤ length (now (row .entry))) ⌝ }
+{
+    if row.len() == 0 {
+        0
+    } else if LIMIT < row.len() {
+        0
+    } else {
+        last_within(row)
+    }
+}
+
 // The closing strip: the part of the row made of its last e[n] cards. All bytes are cards here.
 pub fn closing(row: &[u8]) -> &[u8]
     ensures { λ r. ⌜ now r ≡ closingOf (now (row .entry)) ⌝ }
 {
-    let n = row.len();
-    if n == 0 {
-        return &row[n..];
-    }
-    if LIMIT < n {
-        return &row[n..];
-    }
-    let from = n - last_within(row);
+    let from = row.len() - closing_length(row);
     &row[from..]
 }
 
-// The overlap of two rows within the limit, the right one not empty.
+// The overlap of two rows, the right one within the limit and not empty.
 fn overlap_within(left: &[u8], right: &[u8]) -> usize
     requires { ⌜ (0 < length (now right)) × (length (now right) ≤ limit) ⌝ }
-    ensures { λ r. ⌜ (r ≡ overlapOf (card (now (left .entry))) (length (now (left .entry))) (card (now (right .entry))) (length (now (right .entry)))) × (r ≤ length (now (right .entry))) ⌝ }
+    ensures { λ r. ⌜ r ≡ overlap (card (now (left .entry))) (length (now (left .entry))) (card (now (right .entry))) (length (now (right .entry))) ⌝ }
 {
     let m = right.len();
     let mut table = [0u16; 4096];
     rows::overlap(left, right, &mut table[..m])
 }
 
+// The length of the joining strip.
+fn joining_length(left: &[u8], right: &[u8]) -> usize
+    ensures { λ r. ⌜ (r ≡ joint (now (left .entry)) (now (right .entry))) × (r ≤ length (now (left .entry))) × (r ≤ length (now (right .entry))) ⌝ }
+{
+    if right.len() == 0 {
+        0
+    } else if LIMIT < right.len() {
+        0
+    } else if LIMIT < left.len() {
+        0
+    } else {
+        overlap_within(left, right)
+    }
+}
+
 // The joining strip: the first cards of the right row that the left row's end equals. All bytes are cards here.
 pub fn joining<'l, 'r>(left: &'l [u8], right: &'r [u8]) -> &'r [u8]
     ensures { λ r. ⌜ now r ≡ joiningOf (now (left .entry)) (now (right .entry)) ⌝ }
 {
-    if right.len() == 0 {
-        return &right[..0];
-    }
-    if LIMIT < right.len() {
-        return &right[..0];
-    }
-    if LIMIT < left.len() {
-        return &right[..0];
-    }
-    let k = overlap_within(left, right);
+    let k = joining_length(left, right);
     &right[..k]
 }

@@ -8,14 +8,22 @@ use Rattle.words.specs.Lists.{both, greatest}
 use Rattle.words.specs.Rows.{card, closes, echo}
 use Rattle.words.specs.Numbers.{limit}
 
--- the closing strip: the last e[n] cards of the row; its last 0 cards where it is over the limit
+-- the length of the closing strip: e[n]; 0 where the row is over the limit
+unfoldable pub closed : List ℕ → ℕ
+closed x = let k = echo (card x) (length x) in cond (leb (length x) limit) k 0
+
+-- the closing strip: the last e[n] cards of the row
 unfoldable pub closing : List ℕ → List ℕ
-closing x = let n = length x in drop (n - cond (leb n limit) (echo (card x) n) 0) x
+closing x = drop (length x - closed x) x
 
 -- the greatest length at which the end of the left row X[1..n] equals the opening of the right row Y[1..m]; it may be the whole of either
 unfoldable pub overlap : (ℕ → ℕ) → ℕ → (ℕ → ℕ) → ℕ → ℕ
 overlap X n Y m = greatest (closes Y X n) (suc (min n m))
 
--- the joining strip: the first cards of the right row that the left row's end equals; none where a row is over the limit
+-- the length of the joining strip: the overlap; 0 where a row is over the limit
+unfoldable pub joint : List ℕ → List ℕ → ℕ
+joint x y = let k = overlap (card x) (length x) (card y) (length y) in cond (both (leb (length x) limit) (leb (length y) limit)) k 0
+
+-- the joining strip: the first cards of the right row that the left row's end equals
 unfoldable pub joining : List ℕ → List ℕ → List ℕ
-joining x y = take (cond (both (leb (length x) limit) (leb (length y) limit)) (overlap (card x) (length x) (card y) (length y)) 0) y
+joining x y = take (joint x y) y
