@@ -28,12 +28,12 @@ pub struct Counted {
 pub fn echoes(a: usize, row: &[u8], out: &mut [u16]) -> Answer
     ensures { λ r. ⌜ (r .number, r .place, now (out .exit)) ≡ echoes-outcome a (now (row .entry)) (now (out .entry)) ⌝ }
 {
-    let r = checks::row_and_slice(a, row, out.len());
-    if r.number != DONE {
-        return r;
+    let answer = checks::row_and_slice(a, row, out.len());
+    if answer.number != DONE {
+        return answer;
     }
     rows::echoes(row, out);
-    r
+    answer
 }
 
 // The looks of a row within the limit.

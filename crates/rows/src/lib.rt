@@ -85,8 +85,9 @@ fn looked(row: &[u8], e: &[u16], b: usize, c: u8) -> usize
     ensures { λ r. ⌜ (r ≡ looksFrom (card (now (row .entry))) (echo (card (now (row .entry)))) c b) × (r ≤ b + 1) ⌝ }
 {
     if card_at(row, b + 1) == c {
-        1
-    } else if b == 0 {
+        return 1;
+    }
+    if b == 0 {
         1
     } else {
         looked(row, e, echo_at(e, b), c) + 1

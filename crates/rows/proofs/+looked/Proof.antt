@@ -41,6 +41,16 @@ looked-card-at-requires : (t : ℕ) → looked-lts.Need-card-at-requires (
 ) (looked-at t) looked.Post
 looked-card-at-requires t c κs = search needs
 
+looked-returns : (t : ℕ) → looked-lts.Need-returns (
+  card-at-reads.Asked,
+  card-at-reads.Learnt,
+  echo-at-reads.Asked,
+  echo-at-reads.Learnt,
+  looked-below t,
+  looked.Post,
+) (looked-at t) looked.Post
+looked-returns t c = (search (needs, look-here), search needs)
+
 looked-echo-at-requires : (t : ℕ) → looked-lts.Need-echo-at-requires (
   card-at-reads.Asked,
   card-at-reads.Learnt,
@@ -70,16 +80,6 @@ looked-add-result : (t : ℕ) → looked-lts.Need-add-result (
   looked.Post,
 ) (looked-at t) looked.Post
 looked-add-result t c = search needs
-
-looked-returns : (t : ℕ) → looked-lts.Need-returns (
-  card-at-reads.Asked,
-  card-at-reads.Learnt,
-  echo-at-reads.Asked,
-  echo-at-reads.Learnt,
-  looked-below t,
-  looked.Post,
-) (looked-at t) looked.Post
-looked-returns t c = (search (needs, look-here), search needs)
 
 looked-returns-2 : (t : ℕ) → looked-lts.Need-returns-2 (
   card-at-reads.Asked,
@@ -114,9 +114,9 @@ pub +looked-spec : {M : Type 1} → statement M
     looked.Post
     (looked-add-card-at t)
     (looked-card-at-requires t)
+    (looked-returns t)
     (looked-echo-at-requires t)
     (looked-looked-requires t)
     (looked-add-result t)
-    (looked-returns t)
     (looked-returns-2 t)
     (looked-returns-3 t)

@@ -1,0 +1,7 @@
+// Runs the cases of 01 and 001 through the entries, and prints what they answer: the file stdout beside src/ says what they must.
+mod rows_cases;
+mod show;
+
+fn main() {
+    rows_cases::all();
+}

@@ -1,0 +1,42 @@
+// Lines of tabbed fields.
+
+pub fn word(w: &[u8]) {
+    io::write_all(1, w);
+}
+
+pub fn number(n: u64) {
+    io::write_all(1, b"\t");
+    io::print_decimal(1, n);
+}
+
+pub fn end() {
+    io::write_all(1, b"\n");
+}
+
+pub fn answer(r: corridor::Answer) {
+    number(r.number as u64);
+    number(r.place as u64);
+}
+
+pub fn counted(r: corridor::Counted) {
+    number(r.number as u64);
+    number(r.place as u64);
+    number(r.count);
+}
+
+fn wide(x: u16) -> u64 {
+    x as u64
+}
+
+// Each number of the list; a list of over 20 by its last alone.
+pub fn list(l: &[u16]) {
+    if 20 < l.len() {
+        number(wide(l[l.len() - 1]));
+        return;
+    }
+    let mut i = 0;
+    while i < l.len() {
+        number(wide(l[i]));
+        i += 1;
+    }
+}
