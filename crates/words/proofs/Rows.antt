@@ -5,7 +5,8 @@ use mathlib.Core.List.{List, [], _∷_}
 use Prim.Native.Nat.{ℕ, zero, suc, _+_, _-_, _≤_, _<_}
 use native.Mathlib.Omega.{arith}
 use lib.Dec.{eqb}
-use lib.ListN.{getD}
+use lib.ListN.{getD, take}
+use lib.Seq.{getD-take}
 use Rattle.words.specs.Lists.{at}
 use Rattle.words.specs.Rows.{card, Small, Alike, downIn, down, chain, looksFrom, looksAt, looksTo}
 use Rattle.words.proofs.Lists.{index-at, either, In, In-nil, In-cons, Falls}
@@ -71,8 +72,22 @@ small-less m h s = record { below = λ i l. s .below i (omega arith) }
 pub small-alike : {E F : ℕ → ℕ} {n : ℕ} → Alike E F n → Small E n → Small F n
 small-alike a s = record { below = λ i h. omega (arith, s .below i h, a .same i h) }
 
-pub alike-flip : {E F : ℕ → ℕ} {n : ℕ} → Alike E F n → Alike F E n
-alike-flip a = record { same = λ i h. sym (a .same i h) }
+pub alike-at : {E F : ℕ → ℕ} {n : ℕ} → Alike E F n → (k : ℕ) → 0 < k → k ≤ n → E k ≡ F k
+alike-at a zero p h = absurd (omega arith)
+alike-at a (suc k) p h = a .same k h
+
+pub alike-refl : (E : ℕ → ℕ) (n : ℕ) → Alike E E n
+alike-refl E n = record { same = λ i h. refl }
+
+pub alike-part : {E F : ℕ → ℕ} {n : ℕ} (k : ℕ) → k ≤ n → Alike E F n → Alike E F k
+alike-part k l a = record { same = λ i h. a .same i (omega arith) }
+
+pub alike-take : (e : List ℕ) (k : ℕ) → Alike (at e) (at (take k e)) k
+unfolding at
+alike-take e k = record { same = λ i h. sym (getD-take k e i 0 h) }
+
+pub alike-sym : {E F : ℕ → ℕ} {n : ℕ} → Alike E F n → Alike F E n
+alike-sym a = record { same = λ i h. sym (a .same i h) }
 
 pub down-alike : {T : Type 0} {E F : ℕ → ℕ} {n : ℕ} (z : T) (s : ℕ → T → T) → Small E n → Alike E F n → (b : ℕ) → b ≤ n → down E z s b ≡ down F z s b
 down-alike {T} {E} {F} z s small a = down-ind small (λ b. down E z s b ≡ down F z s b)

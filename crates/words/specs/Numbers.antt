@@ -121,3 +121,7 @@ sizes A n = refusal (alphabet A ∷ long limit n ∷ [])
 -- 1, 2, then 3: and a lent slice of m entries that must have n
 abbrev pub lent : ℕ → ℕ → ℕ → ℕ × ℕ
 lent A n m = refusal (sizes A n ∷ matching n m ∷ [])
+
+-- 1, 2, then 4: a row
+abbrev pub rowed : ℕ → List ℕ → ℕ × ℕ
+rowed A x = refusal (sizes A (length x) ∷ cards A x ∷ [])

@@ -9,7 +9,7 @@ use lib.Dec.{leb, eqb}
 use lib.ListN.{length, drop}
 use Rattle.words.specs.Lists.{at}
 use Rattle.words.specs.Rows.{echoes, reaches, looks}
-use Rattle.words.specs.Numbers.{DONE, MISMATCH, ROOM, LAST, DIFFERS, limit, countLimit, differing, named, unless, alphabet, long, matching, cards, refusal, sizes, lent}
+use Rattle.words.specs.Numbers.{DONE, MISMATCH, ROOM, LAST, DIFFERS, limit, countLimit, differing, named, unless, alphabet, long, matching, cards, refusal, sizes, lent, rowed}
 use Rattle.words.specs.Stand.{Stands, verdict}
 use Rattle.words.specs.Least.{before, LeastRow, rebuilt}
 use Rattle.words.specs.Listing.{standing, listing, count, First, Next, StandsAfter, head, behind}
@@ -40,13 +40,13 @@ reach-outcome A x old = answered (refusal (lent A (length x) (length old) ∷ ca
 
 -- looks: number, place, count
 unfoldable pub looks-outcome : ℕ → List ℕ → ℕ × ℕ × ℕ
-looks-outcome A x = counted (refusal (sizes A (length x) ∷ cards A x ∷ [])) (looks x)
+looks-outcome A x = counted (rowed A x) (looks x)
 
 -- sheet: number, place, length, buffer; the bytes behind the sheet stay
 unfoldable pub sheet-outcome : ℕ → List ℕ → List ℕ → ℕ × ℕ × ℕ × List ℕ
 sheet-outcome A x old =
     let t = sheet A x in
-    let r = refusal (sizes A (length x) ∷ cards A x ∷ unless (leb (length t) (length old)) ROOM ∷ []) in
+    let r = refusal (rowed A x ∷ unless (leb (length t) (length old)) ROOM ∷ []) in
     (r .0, r .1, given r (length t), kept r (t ++ drop (length t) old) old)
 
 -- guess: number and place; g is the guess at the hidden row x

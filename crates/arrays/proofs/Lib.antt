@@ -1,0 +1,12 @@
+pub mod Members
+pub mod Rules
+pub mod Walks
+pub mod Judging
+pub mod Alike
+pub mod Pigeon
+pub mod Cards
+pub mod Growth
+pub mod Places
+pub mod Theorem
+pub mod Reasons
+pub mod Writing
