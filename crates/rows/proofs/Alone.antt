@@ -37,7 +37,7 @@ module _ (X E : ℕ → ℕ) (n : ℕ) (alike : Alike E (echo X) n) where
   chain-own (suc i) p h = ap (chain E) (alike .same i h)
       ∙ chain-alike small alike (echo X (suc i)) (omega (arith, echo-below X (suc i) p))
 
-  -- 1 reaches n; every other place what the chains say
+  -- place 1 reaches n; every other place what the chains say
   pub reach-alone : (d : ℕ) → d < n → reach X n (suc d) ≡ reachOf E n (suc d)
   unfolding reachOf
   reach-alone zero h = reach-whole X n
