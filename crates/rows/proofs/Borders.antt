@@ -14,14 +14,14 @@ use Rattle.words.proofs.Lists.{which, either, same?, not-both, greatest-low, gr
 use Rattle.words.proofs.Rows.{down-ind, chain-zero, chain-suc, chain-falls}
 use Rattle.rows.specs.Border.{Closes, Border}
 
-agree-out : (Y X : ℕ → ℕ) (d k : ℕ) → agree eqb Y X d k ≡ true → (j : ℕ) → 0 < j → j ≤ k → Y j ≡ X (d + j)
+pub agree-out : (Y X : ℕ → ℕ) (d k : ℕ) → agree eqb Y X d k ≡ true → (j : ℕ) → 0 < j → j ≤ k → Y j ≡ X (d + j)
 unfolding agree
 agree-out Y X d zero t j p h = absurd (omega arith)
 agree-out Y X d (suc k) t j p h = either (which (eqb (Y (suc k)) (X (d + suc k))))
     (λ u. either (same? j (suc k)) (λ e. rw e (eqb-true _ _ u)) (λ n. agree-out Y X d k (rw u at t) j p (omega arith)))
     (λ f. absurd (not-both (rw f at t) refl))
 
-agree-in : (Y X : ℕ → ℕ) (d k : ℕ) → ((j : ℕ) → 0 < j → j ≤ k → Y j ≡ X (d + j)) → agree eqb Y X d k ≡ true
+pub agree-in : (Y X : ℕ → ℕ) (d k : ℕ) → ((j : ℕ) → 0 < j → j ≤ k → Y j ≡ X (d + j)) → agree eqb Y X d k ≡ true
 unfolding agree
 agree-in Y X d zero a = refl
 agree-in Y X d (suc k) a = rw (eq-eqb _ _ (a (suc k) (omega arith) (omega arith))) (agree-in Y X d k (λ j p h. a j p (omega arith)))

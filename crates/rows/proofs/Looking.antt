@@ -84,7 +84,7 @@ module _ (X : ℕ → ℕ) where
       looks-own (suc i) (echo X (suc i)) (omega arith) (omega (arith, b .less)) (b .edge) (b .less) (echo-rises X (suc i))
 
   -- the looks of a row are a function of its echoes
-  looks-alone : (n : ℕ) → looksTo X (echo X) n ≡ looksOf (echo X) n
+  pub looks-alone : (n : ℕ) → looksTo X (echo X) n ≡ looksOf (echo X) n
   unfolding looksTo looksAt looksOf
   looks-alone zero = refl
   looks-alone (suc zero) = refl

@@ -1,0 +1,34 @@
+-- Reach, periods and looks from the echoes alone, and what the loop that writes a reach table keeps. Assumes nothing: these are definitions.
+use mathlib.Core.Path.{_≡_}
+use mathlib.Core.Bool.{Bool}
+use mathlib.Core.List.{List}
+use Prim.Native.Nat.{ℕ, zero, suc, _+_, _-_, _≤_, _<_}
+use lib.Dec.{ltb, eqb}
+use lib.ListN.{length}
+use Rattle.words.specs.Lists.{each, any, keep, greatest, places, at}
+use Rattle.words.specs.Rows.{card, chain, reach}
+
+-- k is on the chain of place i
+unfoldable pub onChain : (ℕ → ℕ) → ℕ → ℕ → Bool
+onChain E i k = any (eqb k) (chain E (E i))
+
+-- the reach of a place from the echoes of n places: place 1 reaches n; the place with d > 0 cards before it the greatest k that is on the chain of place d + k
+unfoldable pub reachOf : (ℕ → ℕ) → ℕ → ℕ → ℕ
+reachOf E n zero = 0
+reachOf E n (suc zero) = n
+reachOf E n (suc (suc d)) = greatest (λ k. onChain E (suc d + k) k) (suc (n - suc d))
+
+-- the reach table of the rows with the echoes e
+unfoldable pub reachesOf : List ℕ → List ℕ
+reachesOf e = each (reachOf (at e) (length e)) (places (length e))
+
+-- the periods of the rows with the echoes e: their length less each number above 0 on the chain of the last place
+unfoldable pub periodsOf : List ℕ → List ℕ
+periodsOf e = each (λ k. length e - k) (keep (ltb 0) (chain (at e) (at e (length e))))
+
+-- the reaches of the first i places of x stand in t, and the window that is kept lies behind the first l cards; l = 0 is no window
+pub record Reaching (x t : List ℕ) (l i : ℕ) : Type 0 where
+  pub below : l < i
+  pub within : i ≤ length x
+  pub whole : length t ≡ length x
+  pub right : (d : ℕ) → d < i → at t (suc d) ≡ reach (card x) (length x) (suc d)
