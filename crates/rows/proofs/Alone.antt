@@ -10,7 +10,7 @@ use borrow.Author.Tests.{eqb-true, eq-eqb}
 use Rattle.words.specs.Lists.{each, keep, falling, greatest, at}
 use Rattle.words.specs.Rows.{card, Small, Alike, echo, echoes, chain, reach, reaches, borders, periods, looksFrom, looks}
 use Rattle.words.proofs.Lists.{In, any-in, any-out, greatest-low, greatest-passes, greatest-most, each-place, each-only, places-length}
-use Rattle.words.proofs.Rows.{small-less, small-alike, alike-flip, chain-zero, chain-alike, looks-alike}
+use Rattle.words.proofs.Rows.{small-less, small-alike, alike-sym, chain-zero, chain-alike, looks-alike}
 use Rattle.rows.specs.Border.{looksOf}
 use Rattle.rows.specs.Reach.{onChain, reachOf, reachesOf, periodsOf}
 use Rattle.rows.proofs.Borders.{echo-below, echo-small, chain-borders}
@@ -30,7 +30,7 @@ onChain-out E i k t = let (m, j, e) = any-out (eqb k) (chain E (E i)) t in subst
 -- E has the echoes of X at the first n places
 module _ (X E : ℕ → ℕ) (n : ℕ) (alike : Alike E (echo X) n) where
   small : Small E n
-  small = small-alike (alike-flip alike) (echo-small X n)
+  small = small-alike (alike-sym alike) (echo-small X n)
 
   chain-own : (i : ℕ) → 0 < i → i ≤ n → chain E (E i) ≡ chain (echo X) (echo X i)
   chain-own zero p h = absurd (omega arith)
