@@ -1,2 +1,4 @@
 pub mod Decoding
 pub mod Answers
+pub mod Packing
+pub mod Unique
