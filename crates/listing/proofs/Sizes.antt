@@ -18,7 +18,7 @@ unfolding keep
 keep-few p [] = omega arith
 keep-few p (x ∷ l) = either (which (p x)) (λ t. rw t (omega (arith, keep-few p l))) (λ f. rw f (omega (arith, keep-few p l)))
 
-run-length : (c n : ℕ) → length (run c n) ≡ n
+pub run-length : (c n : ℕ) → length (run c n) ≡ n
 unfolding run
 run-length c zero = refl
 run-length c (suc n) = ap suc (run-length (suc c) n)
