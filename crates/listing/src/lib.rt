@@ -1,8 +1,16 @@
 // Counting the standing arrays, and stepping through them.
+use arrays::number_of;
+use rows::echo_at;
+use rows::put_echo;
+use words::DONE;
 ghost use mathlib.Core.Path.{_≡_};
-ghost use Prim.Native.Nat.{_≤_, _<_};
-ghost use Rattle.words.specs.Lists.{at};
+ghost use Prim.Native.Nat.{_+_, _-_, _≤_, _<_};
+ghost use lib.ListN.{length, take};
+ghost use Rattle.words.specs.Lists.{at, placed};
+ghost use Rattle.words.specs.Listing.{countFrom, standing, count as countOf};
+ghost use Rattle.arrays.specs.Steps.{Passes, Sound};
 ghost use Rattle.listing.specs.Published.{published as publishedCounts};
+ghost use Rattle.listing.specs.Values.{peak, tried, Tries};
 
 // The counts over 26 letters for n = 1..10, as they were published.
 const PUBLISHED: [u64; 10] = [1, 2, 4, 9, 20, 47, 110, 263, 630, 1525];
@@ -13,4 +21,64 @@ pub fn published(n: usize) -> u64
     ensures { λ r. ⌜ r ≡ at publishedCounts n ⌝ }
 {
     PUBLISHED[n - 1]
+}
+
+// The greatest value that stands behind the first i places; for a possible value m above 0, the next below it is that of m - 1.
+fn peak_at(e: &[u16], i: usize) -> usize
+    requires { ⌜ (i ≤ length (now e)) × Sound (at (now e)) i ⌝ }
+    ensures { λ r. ⌜ r ≡ peak (at (now (e .entry))) i ⌝ }
+{
+    if i == 0 { 0 } else { echo_at(e, i) + 1 }
+}
+
+// e with the value m behind its first i places.
+fn with_value(e: [u16; 20], i: usize, m: usize) -> [u16; 20]
+    requires { ⌜ (i < 20) × (m < 65536) × (length e ≡ 20) ⌝ }
+    ensures { λ r. ⌜ (r ≡ placed e (i + 1) m) × (length r ≡ 20) ⌝ }
+{
+    let mut f = e;
+    put_echo(&mut f, i + 1, m);
+    f
+}
+
+// How many standing arrays of n places over a letters begin with the first i places of e, which stand.
+fn count_prefix(a: usize, e: [u16; 20], i: usize, n: usize) -> u64
+    requires { ⌜ (i ≤ n) × (n ≤ 20) × (length e ≡ 20) × Passes a (at e) i ⌝ }
+    ensures { λ r. ⌜ r ≡ countFrom (standing a) (n - i) (take i e) ⌝ }
+{
+    if i == n {
+        1
+    } else {
+        try_values(a, e, i, n, peak_at(&e, i))
+    }
+}
+
+// The same over the possible values at place i + 1 from m down the chain to zero.
+fn try_values(a: usize, e: [u16; 20], i: usize, n: usize, m: usize) -> u64
+    requires { ⌜ Tries a e i n m ⌝ }
+    ensures { λ r. ⌜ r ≡ tried (standing a) (n - (i + 1)) (take i e) m ⌝ }
+{
+    let w = number_of(a, &e, i, m);
+    if m == 0 {
+        if w == DONE {
+            count_prefix(a, with_value(e, i, m), i + 1, n)
+        } else {
+            0
+        }
+    } else {
+        let rest = try_values(a, e, i, n, peak_at(&e, m - 1));
+        if w == DONE {
+            rest + count_prefix(a, with_value(e, i, m), i + 1, n)
+        } else {
+            rest
+        }
+    }
+}
+
+// How many arrays of n places stand over a letters.
+pub fn count(a: usize, n: usize) -> u64
+    requires { ⌜ n ≤ 20 ⌝ }
+    ensures { λ r. ⌜ r ≡ countOf a n ⌝ }
+{
+    count_prefix(a, [0; 20], 0, n)
 }
