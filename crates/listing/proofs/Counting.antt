@@ -96,7 +96,7 @@ module _ {A : ℕ} {E : ℕ → ℕ} {i : ℕ} (passes : Passes A E i) where
   small : Small E i
   small = sound-small i (passes-sound passes)
 
-  rung-top : Rung E i (peak E i)
+  pub rung-top : Rung E i (peak E i)
   unfolding peak
   rung-top = go i small
     where
@@ -107,11 +107,11 @@ module _ {A : ℕ} {E : ℕ → ℕ} {i : ℕ} (passes : Passes A E i) where
   start-low : 0 < i → E i < i
   start-low l = small-at small i l (omega arith)
 
-  rung-most : (m : ℕ) → Rung E i m → m ≤ i
+  pub rung-most : (m : ℕ) → Rung E i m → m ≤ i
   rung-most m (ground z) = omega arith
   rung-most m (step l j) = omega (arith, start-low l, possible-range small (E i) (omega (arith, start-low l)) m j)
 
-  rung-low : (m : ℕ) → Rung E i m → 0 < m → peak E (m - 1) < m
+  pub rung-low : (m : ℕ) → Rung E i m → 0 < m → peak E (m - 1) < m
   rung-low m h l = omega (arith, peak-low (m - 1) (passes-part (m - 1) (omega (arith, rung-most m h)) passes))
 
   next-at : (m : ℕ) → m ≤ i → 0 < i → In m (possible E (E i)) → 0 < m → Rung E i (peak E (m - 1))
@@ -121,11 +121,11 @@ module _ {A : ℕ} {E : ℕ → ℕ} {i : ℕ} (passes : Passes A E i) where
   next-at (suc (suc c)) k l j q = rw sub-one (step l (possible-part small (suc c) (E i) (omega (arith, start-low l)) j (suc (E (suc c)))
       (rw (possible-suc small c (omega arith)) (there (possible-top small (E (suc c)) (omega (arith, small .below c (omega arith))))))))
 
-  rung-next : (m : ℕ) → Rung E i m → 0 < m → Rung E i (peak E (m - 1))
+  pub rung-next : (m : ℕ) → Rung E i m → 0 < m → Rung E i (peak E (m - 1))
   rung-next m (ground z) q = absurd (omega arith)
   rung-next m (step l j) q = next-at m (rung-most m (step l j)) l j q
 
-  gap : (m j : ℕ) → 0 < i → m ≤ i → In m (possible E (E i)) → In j (possible E (E i)) → j < m → j ≤ peak E (m - 1)
+  pub gap : (m j : ℕ) → 0 < i → m ≤ i → In m (possible E (E i)) → In j (possible E (E i)) → j < m → j ≤ peak E (m - 1)
   unfolding peak
   gap zero j l k q h z = absurd (omega arith)
   gap (suc zero) j l k q h z = absurd (omega (arith, possible-range small (E i) (omega (arith, start-low l)) j h))

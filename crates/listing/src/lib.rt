@@ -4,13 +4,15 @@ use rows::echo_at;
 use rows::put_echo;
 use words::DONE;
 ghost use mathlib.Core.Path.{_≡_};
-ghost use Prim.Native.Nat.{_+_, _-_, _≤_, _<_};
+ghost use Prim.Native.Nat.{suc, _+_, _-_, _≤_, _<_};
 ghost use lib.ListN.{length, take};
 ghost use Rattle.words.specs.Lists.{at, placed};
+ghost use Rattle.words.specs.Stand.{possible};
+ghost use Rattle.words.proofs.Lists.{In};
 ghost use Rattle.words.specs.Listing.{countFrom, standing, count as countOf};
 ghost use Rattle.arrays.specs.Steps.{Passes, Sound};
 ghost use Rattle.listing.specs.Published.{published as publishedCounts};
-ghost use Rattle.listing.specs.Values.{peak, tried, Tries};
+ghost use Rattle.listing.specs.Values.{peak, tried, Tries, cover as coverOf, Looks, Lower};
 
 // The counts over 26 letters for n = 1..10, as they were published.
 const PUBLISHED: [u64; 10] = [1, 2, 4, 9, 20, 47, 110, 263, 630, 1525];
@@ -81,4 +83,33 @@ pub fn count(a: usize, n: usize) -> u64
     ensures { λ r. ⌜ r ≡ countOf a n ⌝ }
 {
     count_prefix(a, [0; 20], 0, n)
+}
+
+// The open value that the possible value p is, or is hidden behind, where the echo of the place before is b: a walk along the chain, and up again.
+fn cover(e: &[u16], b: usize, p: usize) -> usize
+    requires { ⌜ (b < length (now e)) × Sound (at (now e)) (suc b) × In p (possible (at (now e)) b) ⌝ }
+    ensures { λ r. ⌜ r ≡ coverOf (at (now (e .entry))) p b ⌝ }
+{
+    if b + 1 == p {
+        return p;
+    }
+    let t = cover(e, echo_at(e, b), p);
+    if echo_at(e, b + 1) == t { b + 1 } else { t }
+}
+
+// The least open value above v behind the first i places, of the possible values from p down. A value whose echo is above v too is passed over, since
+// that echo has the same cover: so `cover` walks once for each letter.
+fn least_open(e: &[u16], i: usize, p: usize, v: usize) -> usize
+    requires { ⌜ (i ≤ length (now e)) × Looks (at (now e)) i p v ⌝ }
+    ensures { λ r. ⌜ Lower (at (now (e .entry))) i p v r ⌝ }
+{
+    if p <= v {
+        return peak_at(e, i);
+    }
+    let rest = least_open(e, i, peak_at(e, p - 1), v);
+    if v < echo_at(e, p) {
+        return rest;
+    }
+    let t = cover(e, echo_at(e, i), p);
+    if t < rest { t } else { rest }
 }

@@ -1,6 +1,5 @@
 -- `count`: the count of the empty prefix. Assumes nothing.
 use borrow.Author.Needs.{needs}
-use Rattle.arrays.proofs.Judging.{passes-none}
 use Rattle.listing.proofs.Counting.{count-whole}
 use Rattle.listing.proofs.count.Statement.{statement}
 use Rattle.listing.proofs.count.Tie as tie
