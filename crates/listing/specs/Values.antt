@@ -3,9 +3,9 @@ use mathlib.Core.Path.{_≡_}
 use mathlib.Core.Bool.{Bool, true, false, cond}
 use mathlib.Core.List.{List}
 use Prim.Native.Nat.{ℕ, zero, suc, _+_, _-_, _≤_, _<_}
-use lib.Dec.{eqb}
+use lib.Dec.{ltb, eqb}
 use lib.ListN.{length, take}
-use Rattle.words.specs.Lists.{at, placed}
+use Rattle.words.specs.Lists.{both, at, placed}
 use Rattle.words.specs.Rows.{down}
 use Rattle.words.specs.Numbers.{DONE}
 use Rattle.words.specs.Stand.{possible, weight, weighed}
@@ -59,6 +59,10 @@ pub record LeastValue (A : ℕ) (E : ℕ → ℕ) (i v r : ℕ) : Type 0 where
   pub from : v ≤ r
   pub stands : weighed A E i r ≡ DONE
   pub least : (m : ℕ) → v ≤ m → weighed A E i m ≡ DONE → r ≤ m
+
+-- the place before the k-th is behind the first i and has the same echo
+unfoldable pub repeated : (ℕ → ℕ) → ℕ → ℕ → Bool
+repeated E i k = both (ltb (i + 1) k) (eqb (E (k - 1)) (E k))
 
 -- the first k places stand, and each behind the first i has the least value
 pub record Lows (A : ℕ) (E : ℕ → ℕ) (i k : ℕ) : Type 0 where

@@ -7,12 +7,13 @@ ghost use mathlib.Core.Path.{_≡_};
 ghost use Prim.Native.Nat.{suc, _+_, _-_, _≤_, _<_};
 ghost use lib.ListN.{length, take};
 ghost use Rattle.words.specs.Lists.{at, placed};
-ghost use Rattle.words.specs.Stand.{possible};
+ghost use Rattle.words.specs.Numbers.{limit, DONE as done};
+ghost use Rattle.words.specs.Stand.{possible, verdict};
 ghost use Rattle.words.proofs.Lists.{In};
-ghost use Rattle.words.specs.Listing.{countFrom, standing, count as countOf};
+ghost use Rattle.words.specs.Listing.{countFrom, standing, count as countOf, First};
 ghost use Rattle.arrays.specs.Steps.{Passes, Sound};
 ghost use Rattle.listing.specs.Published.{published as publishedCounts};
-ghost use Rattle.listing.specs.Values.{peak, tried, Tries, cover as coverOf, Looks, Lower};
+ghost use Rattle.listing.specs.Values.{peak, tried, Tries, cover as coverOf, Looks, Lower, LeastValue, repeated, Lows, Filled, Turned, Raised, Stepped};
 
 // The counts over 26 letters for n = 1..10, as they were published.
 const PUBLISHED: [u64; 10] = [1, 2, 4, 9, 20, 47, 110, 263, 630, 1525];
@@ -112,4 +113,97 @@ fn least_open(e: &[u16], i: usize, p: usize, v: usize) -> usize
     }
     let t = cover(e, echo_at(e, i), p);
     if t < rest { t } else { rest }
+}
+
+// Whether place k has the echo of the place before it, which is behind the first i.
+fn repeats(e: &[u16], i: usize, k: usize) -> bool
+    requires { ⌜ (i < length (now e)) × (k ≤ length (now e)) ⌝ }
+    ensures { λ r. ⌜ r ≡ repeated (at (now (e .entry))) i k ⌝ }
+{
+    if k <= i + 1 {
+        return false;
+    }
+    if echo_at(e, k - 1) == echo_at(e, k) {
+        true
+    } else {
+        false
+    }
+}
+
+// The least value that stands behind the first k places, where each behind the first i has the least. Over one letter only the greatest stands. The
+// same echo before gives the same value again; without that, every place behind a row such as aaabaaa would walk its chain once more.
+fn least_value(a: usize, e: &[u16], i: usize, k: usize) -> usize
+    requires { ⌜ (i ≤ k) × (k < length (now e)) × Lows a (at (now e)) i k ⌝ }
+    ensures { λ r. ⌜ LeastValue a (at (now (e .entry))) k 0 r ⌝ }
+{
+    if a == 1 {
+        return peak_at(e, k);
+    }
+    if repeats(e, i, k) {
+        return echo_at(e, k);
+    }
+    if number_of(a, e, k, 0) == DONE {
+        return 0;
+    }
+    least_open(e, k, peak_at(e, k), 0)
+}
+
+// Writes the least value at each place behind the first i.
+fn fill(a: usize, e: &mut [u16], i: usize)
+    requires { ⌜ (i ≤ length (now e)) × (length (now e) ≤ limit) × Passes a (at (now e)) i ⌝ }
+    ensures { λ _. ⌜ Filled a (now (e .entry)) (now (e .exit)) i (length (now (e .exit))) ⌝ }
+{
+    let mut k = i;
+    while k < e.len() {
+        let v = least_value(a, e, i, k);
+        put_echo(e, k + 1, v);
+        k += 1;
+    }
+}
+
+// Writes the least standing array of e's length into e.
+pub fn first(a: usize, e: &mut [u16])
+    requires { ⌜ (0 < a) × (length (now e) ≤ limit) ⌝ }
+    ensures { λ _. ⌜ First a (length (now (e .entry))) (now (e .exit)) ⌝ }
+{
+    fill(a, e, 0)
+}
+
+// The last place whose value is not the greatest that stands there; 0 where there is none.
+fn turn(e: &[u16]) -> usize
+    requires { ⌜ Sound (at (now e)) (length (now e)) ⌝ }
+    ensures { λ r. ⌜ Turned (at (now (e .entry))) (length (now (e .entry))) r ⌝ }
+{
+    let mut i = e.len();
+    while 0 < i {
+        if echo_at(e, i) < peak_at(e, i - 1) {
+            return i;
+        }
+        i -= 1;
+    }
+    0
+}
+
+// Raises the value behind the first k places to the next that stands, and writes the least values behind it.
+fn raise(a: usize, e: &mut [u16], k: usize)
+    requires { ⌜ (k < length (now e)) × (length (now e) ≤ limit) × Passes a (at (now e)) k × (at (now e) (k + 1) < peak (at (now e)) k) ⌝ }
+    ensures { λ _. ⌜ Raised a (now (e .entry)) (now (e .exit)) k ⌝ }
+{
+    let v = least_open(e, k, peak_at(e, k), echo_at(e, k + 1));
+    put_echo(e, k + 1, v);
+    fill(a, e, k + 1)
+}
+
+// Steps from the array e, which stands, to the next of its length, and says whether there is one. Each part is linear: the last place that can rise is
+// found once, the walks for its value are one for each letter, and behind it the echoes fall, or stay and repeat, so that their walks are shorter.
+pub fn next(a: usize, e: &mut [u16]) -> bool
+    requires { ⌜ (0 < a) × (length (now e) ≤ limit) × (verdict a (now e) ≡ (done, 0)) ⌝ }
+    ensures { λ r. ⌜ Stepped a (now (e .entry)) (now (e .exit)) r ⌝ }
+{
+    let t = turn(e);
+    if t == 0 {
+        return false;
+    }
+    raise(a, e, t - 1);
+    true
 }
