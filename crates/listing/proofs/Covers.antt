@@ -14,7 +14,6 @@ use Rattle.words.specs.Stand.{possible, weight, weighed}
 use Rattle.words.proofs.Lists.{either, same?, In, In-nil, In-cons}
 use Rattle.words.proofs.Rows.{down-ind, down-zero, down-suc}
 use Rattle.arrays.specs.Steps.{Passes, Sound}
-use Rattle.arrays.proofs.Members.{zero-or-more}
 use Rattle.arrays.proofs.Rules.{possible-above, possible-zero, possible-suc, possible-range, possible-top, small-at, weight-open, weight-done, weighed-more, sound-at, sound-small, sound-part, passes-sound, echo-possible, walk-top, walk-hit, walk-on}
 use Rattle.listing.specs.Values.{peak, cover, Rung, ground, step, Looks, Lower, LeastValue}
 use Rattle.listing.proofs.Peak.{peak-low, peak-most}
@@ -108,9 +107,9 @@ module _ (E : ℕ → ℕ) (b p : ℕ) (sound : Sound E (suc b)) (is : In p (pos
 
   module _ (past : b + 1 ≡ p → ⊥) where
     pub walk-above : 0 < b
-    walk-above = either (zero-or-more b)
+    walk-above = either (same? b 0)
         (λ z. absurd (past (omega (arith, z, only-one sound p (subst (λ (k : ℕ). In p (possible E k)) z is)))))
-        (λ l. l)
+        (λ d. omega arith)
 
     module _ (y : ℕ) (e : y ≡ E b) where
       low : y < b

@@ -12,7 +12,7 @@ use borrow.Author.Tests.{eqb-true, eq-eqb}
 use Rattle.words.specs.Lists.{run, at}
 use Rattle.words.specs.Numbers.{DONE}
 use Rattle.words.specs.Stand.{Stands, weighed, numberAt}
-use Rattle.words.specs.Listing.{more, standing, listing, count, StandsAt, StandsAfter, First, Next, head}
+use Rattle.words.specs.Listing.{more, standing, listing, count, StandsAt, StandsAfter, First, Next, head, behind}
 use Rattle.words.proofs.Lists.{either}
 use Rattle.words.proofs.Rows.{alike-take}
 use Rattle.arrays.specs.Steps.{Passes, Sound}
@@ -26,7 +26,7 @@ use Rattle.listing.proofs.Order.{before-not, before-total, least-one}
 use Rattle.listing.proofs.Listing.{more-append, values-in, lists}
 use Rattle.listing.proofs.Sizes.{run-length, completes-more}
 use Rattle.listing.proofs.Steps.{last-steps}
-use Rattle.listing.proofs.Standing.{after-stands, first-least, head-first, stepping}
+use Rattle.listing.proofs.Standing.{after-stands, first-least, head-first, behind-next, behind-last, stepping}
 use Rattle.listing.proofs.Walk.{walk-listing}
 
 pub passes-suc : {A : ℕ} {E : ℕ → ℕ} (n : ℕ) → Passes A E n → weighed A E n (E (suc n)) ≡ DONE → Passes A E (suc n)
@@ -143,3 +143,24 @@ module _ (A : ℕ) (pos : 0 < A) (n : ℕ) where
   pub first-head : (f : List ℕ) → First A n f → f ≡ head (listing (standing A) n [])
   unfolding First
   first-head f h = least-one h (head-first A n (listing (standing A) n []) (stands-lists A pos n) (run 0 n) run-stands)
+
+  -- what the listing has behind e starts with the next array, and is nothing exactly where there is none
+  module _ (e : List ℕ) (s : StandsAt A n e) where
+    abbrev L : List (List ℕ)
+    L = listing (standing A) n []
+
+    pub next-head : (f : List ℕ) → Next A e f → (M : List (List ℕ)) × (behind e L ≡ f ∷ M)
+    unfolding Next
+    next-head f h = go (behind e (listing (standing A) n [])) refl
+      where
+        go : (B : List (List ℕ)) → behind e (listing (standing A) n []) ≡ B → (M : List (List ℕ)) × (B ≡ f ∷ M)
+        go [] b = absurd (behind-last A n (listing (standing A) n []) (stands-lists A pos n) e s b f (h .is))
+        go (g ∷ M) b = (M, ap (λ (x : List ℕ). x ∷ M) (least-one (behind-next A n (listing (standing A) n []) (stands-lists A pos n) e s g M b) h))
+
+    pub last-none : ((z : List ℕ) → StandsAfter A e z → ⊥) → behind e L ≡ []
+    unfolding Next
+    last-none none = go (behind e (listing (standing A) n [])) refl
+      where
+        go : (B : List (List ℕ)) → behind e (listing (standing A) n []) ≡ B → B ≡ []
+        go [] b = refl
+        go (g ∷ M) b = absurd (none g (behind-next A n (listing (standing A) n []) (stands-lists A pos n) e s g M b .is))

@@ -15,10 +15,9 @@ use Rattle.words.specs.Numbers.{DONE, limit}
 use Rattle.words.specs.Stand.{Stands, opens, weighed, verdict}
 use Rattle.words.specs.Least.{Least}
 use Rattle.words.specs.Listing.{First, Next, StandsAfter}
-use Rattle.words.proofs.Lists.{either, same?, both-true, both-left, both-right, both-out, index-at, placed-long, placed-same, placed-other}
+use Rattle.words.proofs.Lists.{either, same?, not-both, both-true, both-left, both-right, both-out, index-at, placed-long, placed-same, placed-other}
 use Rattle.words.proofs.Rows.{alike-take, alike-sym}
 use Rattle.arrays.specs.Steps.{Passes, Sound}
-use Rattle.arrays.proofs.Members.{zero-or-more}
 use Rattle.arrays.proofs.Rules.{weighed-first, passes-sound, passes-part, sound-small, sound-part}
 use Rattle.arrays.proofs.Alike.{weighed-alike}
 use Rattle.arrays.proofs.Judging.{passes-none}
@@ -88,7 +87,7 @@ module _ (A : ℕ) (E : ℕ → ℕ) (i k : ℕ) (lows : Lows A E i k) where
 
   module _ (w p : ℕ) (is : w ≡ weighed A E k 0) (full : w ≡ DONE → ⊥) (top : p ≡ peak E k) where
     later : 0 < k
-    later = either (zero-or-more k) (λ z. absurd (full (is ∙ rw z (weighed-first A E 0 refl)))) (λ l. l)
+    later = either (same? k 0) (λ z. absurd (full (is ∙ rw z (weighed-first A E 0 refl)))) (λ d. omega arith)
 
     above : 0 < peak E k
     unfolding peak
@@ -105,7 +104,7 @@ module _ (A : ℕ) (E : ℕ → ℕ) (i k : ℕ) (lows : Lows A E i k) where
     seek-open r lower = let v = lower-least A E k p 0 r (lows .passes) later top lower in record {
       from = omega arith;
       stands = v .stands;
-      least = λ m l g. either (zero-or-more m) (λ z. absurd (full (is ∙ rw z at g))) (λ h. v .least m (omega arith) g);
+      least = λ m l g. either (same? m 0) (λ z. absurd (full (is ∙ rw z at g))) (λ d. v .least m (omega arith) g);
     }
 
 -- `fill`
@@ -185,7 +184,7 @@ module _ (E : ℕ → ℕ) (n i m p : ℕ) (highs : Highs E n i) (is : m ≡ E i
 module _ (A : ℕ) (e : List ℕ) (k m p : ℕ) (is : m ≡ at e (k + 1)) (passes : Passes A (at e) k) (grows : at e (k + 1) < peak (at e) k) (top : p ≡ peak (at e) k) where
   not-first : 0 < k
   unfolding peak
-  not-first = either (zero-or-more k) (λ z. absurd (omega (arith, rw z at grows))) (λ l. l)
+  not-first = either (same? k 0) (λ z. absurd (omega (arith, rw z at grows))) (λ d. omega arith)
 
   pub raise-looks : Looks (at e) k p m
   raise-looks = record { later = not-first; sound = passes-sound passes; rung = rw top (rung-top passes); low = omega arith }
@@ -259,3 +258,12 @@ module _ (A : ℕ) (e : List ℕ) (good : verdict A e ≡ (DONE, 0)) where
             (subst (λ (j : ℕ). Highest (Stands A) e j) (omega arith) highest)
             (filled-lowest A _ f (suc (t - 1)) filled)
             (λ z s q g. raises .least (getD z (t - 1) 0) (omega arith) (member-weighed A z e (t - 1) (s .is) (omega (arith, s .long, turn-in)) q))))
+
+-- what the step says, for an entry
+pub stepped-next : {A : ℕ} {e f : List ℕ} {t : Bool} → Stepped A e f t → t ≡ true → Next A e f
+stepped-next (stepped y n) z = n
+stepped-next (ended y n k) z = absurd (not-both z y)
+
+pub stepped-last : {A : ℕ} {e f : List ℕ} {t : Bool} → Stepped A e f t → t ≡ false → ((z : List ℕ) → StandsAfter A e z → ⊥) × (f ≡ e)
+stepped-last (stepped y n) z = absurd (not-both y z)
+stepped-last (ended y n k) z = (n, k)
