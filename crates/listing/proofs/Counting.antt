@@ -13,15 +13,16 @@ use borrow.Author.Tests.{ne-eqb}
 use Rattle.words.specs.Lists.{each, keep, sum, run, at, placed}
 use Rattle.words.specs.Rows.{Small, Alike}
 use Rattle.words.specs.Numbers.{DONE}
-use Rattle.words.specs.Stand.{possible, weighed}
+use Rattle.words.specs.Stand.{possible, opens, weighed}
 use Rattle.words.specs.Listing.{more, values, countFrom, standing, count}
 use Rattle.words.proofs.Lists.{which, either, same?, In, there, placed-same, placed-other}
-use Rattle.words.proofs.Rows.{alike-part}
+use Rattle.words.proofs.Rows.{alike-part, alike-take}
 use Rattle.arrays.specs.Steps.{Passes, Sound}
 use Rattle.arrays.proofs.Rules.{small-at, echo-low, possible-range, possible-suc, possible-top, possible-part, possible-below, weighed-done, passes-sound, passes-part, sound-small}
-use Rattle.arrays.proofs.Alike.{weighed-alike, passes-alike}
+use Rattle.arrays.proofs.Alike.{weighed-alike, passes-alike, opens-alike}
 use Rattle.listing.specs.Values.{peak, tried, Rung, ground, step, Tries}
-use Rattle.listing.proofs.Sizes.{count-fits}
+use Rattle.listing.proofs.Sizes.{count-last, count-fits}
+use Rattle.listing.proofs.Few.{values-first, values-room, values-full}
 use Rattle.listing.proofs.Peak.{passes-suc, weighed-take, standing-in, peak-low, peak-most}
 
 -- `peak_at`
@@ -48,6 +49,34 @@ placed-passes A e i m h p w = passes-suc i (passes-alike (placed-alike e i m) p)
 placed-more : (e : List ℕ) (i m : ℕ) → i < length e → take (i + 1) (placed e (i + 1) m) ≡ more (take i e) m
 unfolding more placed
 placed-more e i m h = rw add-one (take-suc-set e i m h)
+
+-- `count_values`: the open values, and zero where they are fewer than A
+module _ (A : ℕ) (e : List ℕ) (i : ℕ) (passes : Passes A (at e) i) (within : i < length e) where
+  pub values-none : i ≡ 0 → 1 ≡ countFrom (standing A) 1 (take i e)
+  values-none z = rw z (sym (count-last (standing A) [] ∙ values-first A))
+
+  pub values-before : (b : ℕ) → (i ≡ 0 → ⊥) → b ≡ at e i → b < length e
+  values-before b d is = omega (arith, small-at (sound-small i (passes-sound passes)) i (omega arith) (omega arith))
+
+  module _ (b k : ℕ) (later : i ≡ 0 → ⊥) (is : b ≡ at e i) (opened : k ≡ length (opens (at e) b)) where
+    -- the first i places as an array of their own
+    behind : (P : ℕ → List ℕ → Type 0) → ((p : List ℕ) (n : ℕ) → length p ≡ suc n → Passes A (at p) (suc n) → k ≡ length (opens (at p) (at p (suc n))) → P k p) → P k (take i e)
+    behind P by = go i refl later
+      where
+        go : (j : ℕ) → i ≡ j → (j ≡ 0 → ⊥) → P k (take i e)
+        go zero z d = absurd (d refl)
+        go (suc n) z d =
+            let a = alike-take e i in
+            let s = sound-small i (passes-sound passes) in
+            let h : at e i ≡ at (take i e) (suc n) = ap (at e) z ∙ a .same n (omega arith) in
+            by (take i e) n (length-take-le i e (omega arith) ∙ z) (subst (λ (x : ℕ). Passes A (at (take i e)) x) z (passes-alike a passes))
+            (opened ∙ ap length (ap (opens (at e)) is ∙ opens-alike a s (at e i) (small-at s i (omega arith) (omega arith)) ∙ ap (opens (at (take i e))) h))
+
+    pub values-more : (r : ℕ) → k < A → r ≡ k + 1 → r ≡ countFrom (standing A) 1 (take i e)
+    values-more r l h = h ∙ behind (λ k p. k + 1 ≡ countFrom (standing A) 1 p) (λ p n g s o. rw add-one (sym (count-last (standing A) p ∙ values-room p n g s (omega (arith, l)) ∙ ap suc (sym o))))
+
+    pub values-all : (r : ℕ) → A ≤ k → r ≡ k → r ≡ countFrom (standing A) 1 (take i e)
+    values-all r l h = h ∙ behind (λ k p. k ≡ countFrom (standing A) 1 p) (λ p n g s o. sym (count-last (standing A) p ∙ values-full p n g s (omega (arith, l)) ∙ sym o))
 
 -- the sum over the values, as a sum from 0 up
 module _ (ok : List ℕ → ℕ → Bool) (r : ℕ) (p : List ℕ) where
@@ -159,6 +188,9 @@ module _ (A : ℕ) (e : List ℕ) (i n : ℕ) (long : length e ≡ 20) (most : n
       let s : n - i ≡ suc (n - (i + 1)) = omega arith in
       h ∙ sym (rw (s, count-tried ok (n - (i + 1)) (take i e), length-take-le i e (omega arith))
       (tried-skip ok (n - (i + 1)) (take i e) k i (omega (arith, peak-low i passes)) (λ m a b. no-value m (omega arith) (λ w. omega (arith, peak-most i m passes w)))))
+
+  pub count-near : (r : ℕ) → i + 1 ≡ n → r ≡ countFrom ok 1 (take i e) → r ≡ countFrom ok (n - i) (take i e)
+  count-near r z h = let s : n - i ≡ 1 = omega arith in h ∙ rw s
 
   pub open-falls : (k t : ℕ) → i ≤ n → (n - i) * 32 + 31 ≡ t → k ≡ peak (at e) i → (n - i) * 32 + k < t
   open-falls k t l z h = omega (arith, peak-low i passes)

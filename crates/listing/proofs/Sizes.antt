@@ -67,6 +67,11 @@ module _ (ok : List ℕ → ℕ → Bool) where
       (sum-most (λ m. countFrom ok r (more p m)) (spans (suc (length p)) r) (values ok p) (λ m. rw (more-length p m) at (count-most r (more p m))))
       (mul-le-mul-right (spans (suc (length p)) r) (values-few p))
 
+  -- one place more has as many as there are values
+  pub count-last : (p : List ℕ) → countFrom ok 1 p ≡ length (values ok p)
+  unfolding countFrom
+  count-last p = sum-alike (λ m. countFrom ok 0 (more p m)) 1 (values ok p) (λ m i. refl) ∙ mul-one (length (values ok p))
+
   -- and so no count behind a prefix of an array of 20 places is above 20!
   pub count-fits : (r : ℕ) (p : List ℕ) → length p + r ≤ 20 → countFrom ok r p ≤ 2432902008176640000
   count-fits r p h = omega (arith, count-most r p, spans-whole (length p) r 20 h, twenty)

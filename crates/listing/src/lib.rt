@@ -1,5 +1,6 @@
 // Counting the standing arrays, and stepping through them.
 use arrays::number_of;
+use arrays::open_count;
 use rows::echo_at;
 use rows::put_echo;
 use words::DONE;
@@ -44,6 +45,24 @@ fn with_value(e: [u16; 20], i: usize, m: usize) -> [u16; 20]
     f
 }
 
+fn wide(x: usize) -> u64
+    ensures { λ r. ⌜ r ≡ x ⌝ }
+{
+    x as u64
+}
+
+// How many values stand behind the first i places of e, which stand. The last place is counted by this rule, without a visit.
+fn count_values(a: usize, e: &[u16], i: usize) -> u64
+    requires { ⌜ (i < length (now e)) × Passes a (at (now e)) i ⌝ }
+    ensures { λ r. ⌜ r ≡ countFrom (standing a) 1 (take i (now (e .entry))) ⌝ }
+{
+    if i == 0 {
+        return 1;
+    }
+    let k = open_count(e, echo_at(e, i));
+    if k < a { wide(k + 1) } else { wide(k) }
+}
+
 // How many standing arrays of n places over a letters begin with the first i places of e, which stand.
 fn count_prefix(a: usize, e: [u16; 20], i: usize, n: usize) -> u64
     requires { ⌜ (i ≤ n) × (n ≤ 20) × (length e ≡ 20) × Passes a (at e) i ⌝ }
@@ -51,6 +70,8 @@ fn count_prefix(a: usize, e: [u16; 20], i: usize, n: usize) -> u64
 {
     if i == n {
         1
+    } else if i + 1 == n {
+        count_values(a, &e, i)
     } else {
         try_values(a, e, i, n, peak_at(&e, i))
     }

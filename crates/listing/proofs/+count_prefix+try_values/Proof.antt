@@ -1,7 +1,7 @@
 -- The cycle of calls {count_prefix, try_values}: one lemma of `Counting` for each way out. What falls: the rest of the length, then the value. Assumes nothing.
 use borrow.Author.Needs.{needs}
 use Rattle.arrays.proofs.Rules.{passes-sound}
-use Rattle.listing.proofs.Counting.{count-full, count-open, open-falls, open-tries, tries-in, tries-small, tries-sound, tries-below, next-falls, next-tries, tried-passes, zero-yes, zero-no, more-yes, more-no, sum-fits}
+use Rattle.listing.proofs.Counting.{count-full, count-near, count-open, open-falls, open-tries, tries-in, tries-small, tries-sound, tries-below, next-falls, next-tries, tried-passes, zero-yes, zero-no, more-yes, more-no, sum-fits}
 use Prim.Native.Nat.{ℕ, _+_, _-_, _*_, _<_}
 use borrow.Fn.Kinds.{In}
 use borrow.Fn.PlainCycle.{Measures, is, falls, and}
@@ -12,6 +12,7 @@ use Rattle.listing.proofs.try_values.Reads as try-values
 use Rattle.listing.proofs.try_values.Kinds as try-values-kinds
 use Rattle.listing.proofs.+count_prefix+try_values.Lts-try_values as try-values-lts
 use Rattle.arrays.proofs.number_of.Reads as number-of-reads
+use Rattle.listing.proofs.count_values.Reads as count-values-reads
 use Rattle.listing.proofs.peak_at.Reads as peak-at-reads
 use Rattle.listing.proofs.with_value.Reads as with-value-reads
 use Rattle.listing.proofs.+count_prefix+try_values.{statement}
@@ -47,7 +48,17 @@ abbrev try-values-claims : ℕ → try-values-lts.Claims
 try-values-claims t = (number-of-reads.Asked, number-of-reads.Learnt, with-value-reads.Asked, with-value-reads.Learnt, count-prefix-below t, count-prefix.Post, peak-at-reads.Asked, peak-at-reads.Learnt, try-values-below t, try-values.Post)
 
 abbrev count-prefix-claims : ℕ → count-prefix-lts.Claims
-count-prefix-claims t = (peak-at-reads.Asked, peak-at-reads.Learnt, try-values-below t, try-values.Post)
+count-prefix-claims t = (count-values-reads.Asked, count-values-reads.Learnt, peak-at-reads.Asked, peak-at-reads.Learnt, try-values-below t, try-values.Post)
+
+count-prefix-add-if2 : (t : ℕ) → count-prefix-lts.Need-add-if2 (count-prefix-claims t) (count-prefix-at t) count-prefix.Post
+count-prefix-add-if2 t c = search needs
+
+count-prefix-slice-aggregate-count-values :
+    (t : ℕ) → count-prefix-lts.Need-slice-aggregate-count-values (count-prefix-claims t) (count-prefix-at t) count-prefix.Post
+count-prefix-slice-aggregate-count-values t c = search needs
+
+count-prefix-count-values-requires : (t : ℕ) → count-prefix-lts.Need-count-values-requires (count-prefix-claims t) (count-prefix-at t) count-prefix.Post
+count-prefix-count-values-requires t c κs = search needs
 
 count-prefix-slice-aggregate-peak-at : (t : ℕ) → count-prefix-lts.Need-slice-aggregate-peak-at (count-prefix-claims t) (count-prefix-at t) count-prefix.Post
 count-prefix-slice-aggregate-peak-at t c = search needs
@@ -62,7 +73,10 @@ count-prefix-returns : (t : ℕ) → count-prefix-lts.Need-returns (count-prefix
 count-prefix-returns t c = search (needs, count-full)
 
 count-prefix-returns-2 : (t : ℕ) → count-prefix-lts.Need-returns-2 (count-prefix-claims t) (count-prefix-at t) count-prefix.Post
-count-prefix-returns-2 t c = search (needs, count-open)
+count-prefix-returns-2 t c = search (needs, count-near)
+
+count-prefix-returns-3 : (t : ℕ) → count-prefix-lts.Need-returns-3 (count-prefix-claims t) (count-prefix-at t) count-prefix.Post
+count-prefix-returns-3 t c = search (needs, count-open)
 
 try-values-slice-aggregate-number-of : (t : ℕ) → try-values-lts.Need-slice-aggregate-number-of (try-values-claims t) (try-values-at t) try-values.Post
 try-values-slice-aggregate-number-of t c = search needs
@@ -119,11 +133,15 @@ pub +count-prefix+try-values-spec : {M : Type 1} → statement M
 +count-prefix+try-values-spec = close μ-count-prefix μ-try-values (λ t. count-prefix-lts.spec (count-prefix-claims t)
     (count-prefix-at t)
     count-prefix.Post
+    (count-prefix-add-if2 t)
+    (count-prefix-slice-aggregate-count-values t)
+    (count-prefix-count-values-requires t)
     (count-prefix-slice-aggregate-peak-at t)
     (count-prefix-peak-at-requires t)
     (count-prefix-try-values-requires t)
     (count-prefix-returns t)
-    (count-prefix-returns-2 t))
+    (count-prefix-returns-2 t)
+    (count-prefix-returns-3 t))
     λ t. try-values-lts.spec (try-values-claims t)
     (try-values-at t)
     try-values.Post
