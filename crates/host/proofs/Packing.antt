@@ -5,17 +5,20 @@ use mathlib.Core.Logic.{_⊎_, inl, inr}
 use mathlib.Core.List.{List, [], _∷_}
 use Prim.Native.Nat.{ℕ, suc, _+_, _*_, _%_, _/_, _≤_, _<_}
 use native.Mathlib.Omega.{arith}
+use mir.Syntax.{w64}
+use mir.Val.{Fits}
 use lib.ListN.{length}
 use borrow.Author.Tests.{eq-eqb, ne-eqb}
 use Rattle.words.specs.Lists.{at}
-use Rattle.words.specs.Numbers.{DONE, IMPOSSIBLE, HIDDEN, FULL, limit, countLimit, unless, alphabet, long, matching, refusal, sizes}
+use Rattle.words.specs.Numbers.{DONE, IMPOSSIBLE, HIDDEN, FULL, LONG, limit, countLimit, unless, alphabet, long, matching, refusal, sizes}
 use Rattle.words.specs.Stand.{weighed, verdict}
-use Rattle.words.specs.Listing.{count}
+use Rattle.words.specs.Listing.{standing, count}
 use Rattle.words.specs.Outcomes.{decoded, given, counted, count-outcome, host-judge-outcome, host-count-outcome}
 use Rattle.words.proofs.Lists.{which, either, same?}
 use Rattle.words.proofs.Checks.{refusal-clear, long-clear, matching-clear, sizes-clear}
 use Rattle.arrays.proofs.Places.{judged}
 use Rattle.arrays.proofs.Reasons.{reason-in, reason-refused}
+use Rattle.listing.proofs.Sizes.{count-fits}
 use Rattle.host.specs.Answers.{judge-answer}
 use Rattle.host.proofs.Decoding.{decoded-long}
 use Rattle.host.proofs.Answers.{verdict-place}
@@ -64,3 +67,40 @@ judge-bounds A n l = chosen Within (sizes A n) (matching (2 * n) (length l)) (ve
 pub judge-read : (A n : ℕ) (l : List ℕ) → (host-judge-outcome A n l % 256 ≡ judge-answer A n l .0) × (host-judge-outcome A n l / 256 ≡ judge-answer A n l .1)
 unfolding host-judge-outcome judge-answer
 judge-read A n l = let (h, p) = judge-bounds A n l in (omega arith, omega arith)
+
+-- and so are number and count: no count of up to 20 places is above 20!
+few : (A n : ℕ) → n ≤ countLimit → count A n ≤ 2432902008176640000
+unfolding count
+few A n h = count-fits (standing A) n [] (omega arith)
+
+pub count-bounds : (A n : ℕ) → (count-outcome A n .0 ≤ LONG) × (count-outcome A n .2 ≤ 2432902008176640000)
+unfolding count-outcome counted given alphabet long refusal
+count-bounds A n = (
+  chosen (λ r. r .0 ≤ LONG) (alphabet A) (long countLimit n) [] (numbered _ 1 (omega arith)) (λ d. numbered _ 2 (omega arith)),
+  either (same? (checks .0) DONE)
+      (λ e. rw (eq-eqb (checks .0) DONE e) (few A n (long-clear countLimit n (refusal-clear (alphabet A) (long countLimit n) [] e .1))))
+      (λ d. rw (ne-eqb (checks .0) DONE d) (omega arith)),
+)
+  where
+    numbered : (t : Bool) (n : ℕ) → n ≤ LONG → unless t n .0 ≤ LONG
+    numbered t n h = omega (arith, unless-low t n)
+
+    checks : ℕ × ℕ
+    checks = refusal (alphabet A ∷ long countLimit n ∷ [])
+
+-- what the game reads of a count
+pub count-read : (A n : ℕ) → (host-count-outcome A n % 4 ≡ count-outcome A n .0) × (host-count-outcome A n / 4 ≡ count-outcome A n .2)
+unfolding host-count-outcome
+count-read A n = let (h, k) = count-bounds A n in (omega arith, omega arith)
+
+-- the packing in the code's terms
+module _ (A n k p c : ℕ) (counts : (k, p, c) ≡ count-outcome A n) where
+  pub count-product : Fits w64 (4 * c)
+  count-product = omega (arith, count-bounds A n, ap (λ (r : ℕ × ℕ × ℕ). r .2) counts)
+
+  pub count-sum : Fits w64 (k + 4 * c)
+  count-sum = omega (arith, count-bounds A n, ap (λ (r : ℕ × ℕ × ℕ). r .0) counts, ap (λ (r : ℕ × ℕ × ℕ). r .2) counts)
+
+  pub count-packed : k + 4 * c ≡ host-count-outcome A n
+  unfolding host-count-outcome
+  count-packed = ap (λ (r : ℕ × ℕ × ℕ). r .0 + 4 * r .2) counts

@@ -10,7 +10,7 @@ ghost use mathlib.Core.List.{[], _∷_};
 ghost use Prim.Native.Nat.{_+_, _*_, _≤_, _<_};
 ghost use lib.ListN.{length};
 ghost use Rattle.words.specs.Numbers.{limit, matching, refusal, sizes};
-ghost use Rattle.words.specs.Outcomes.{decoded, judge-outcome, host-judge-outcome};
+ghost use Rattle.words.specs.Outcomes.{decoded, judge-outcome, host-judge-outcome, host-count-outcome};
 
 // The echo that two bytes stand for.
 fn echo_of(low: u8, high: u8) -> usize
@@ -76,4 +76,13 @@ pub extern "C" fn claybobbin_judge(a: usize, n: usize, bytes: &[u8]) -> u64
     }
     let mut table = [0u16; 4096];
     packed(judge_in(a, bytes, &mut table[..n]))
+}
+
+// Counts the arrays of n places that stand over a letters: number + 4 * count. Numbers 0, 1 and 2.
+#[no_mangle]
+pub extern "C" fn claybobbin_count(a: usize, n: usize) -> u64
+    ensures { λ r. ⌜ r ≡ host-count-outcome a n ⌝ }
+{
+    let r = corridor::count(a, n);
+    (r.number as u64) + 4 * r.count
 }
