@@ -205,6 +205,10 @@ fn opaque<T: Copy>(x: T) -> T {
     unsafe { std::ptr::read_volatile(&x) }
 }
 
+fn used<T: Copy>(x: T) {
+    opaque(x);
+}
+
 fn median(mut t: Vec<f64>) -> f64 {
     t.sort_by(|x, y| x.partial_cmp(y).unwrap());
     t[t.len() / 2]
@@ -235,33 +239,33 @@ fn compare(runs: usize, letters: usize, y: &[u16]) -> (f64, f64) {
     let answer = judge(letters, &bytes);
     let first = if answer == 0 { n + 1 } else { (answer >> 8) as usize };
     assert_eq!(plain_judge(y, &mut v, letters), first, "the two sides disagree");
-    turns(runs, || drop(opaque(judge(letters, &bytes))), || drop(opaque(plain_judge(y, &mut v, opaque(letters)))))
+    turns(runs, || used(judge(letters, &bytes)), || used(plain_judge(y, &mut v, opaque(letters))))
 }
 
 fn judging(runs: usize) {
-    println!("judge, 4,096 echoes            stands       ours us  plain us  ratio");
+    println!("{:<28} {:<10} {:>9} {:>9} {:>6}", "judge, 4,096 echoes", "", "ours us", "plain us", "ratio");
     for k in kinds(4096) {
         let (ours, plain) = compare(runs, k.letters, &k.echoes);
-        println!("{:<22} A {:<4} {:<10} {:>9.2} {:>9.2} {:>6.2}", k.name, k.letters, "stands", ours, plain, ours / plain);
+        println!("{:<21} A {:<4} {:<10} {:>9.2} {:>9.2} {:>6.2}", k.name, k.letters, "stands", ours, plain, ours / plain);
         for (number, y) in breaks(&k) {
             let (ours, plain) = compare(runs, k.letters, &y);
-            println!("{:<22} A {:<4} {} at 4,096 {:>9.2} {:>9.2} {:>6.2}", k.name, k.letters, number, ours, plain, ours / plain);
+            println!("{:<21} A {:<4} {} at 4,096 {:>9.2} {:>9.2} {:>6.2}", k.name, k.letters, number, ours, plain, ours / plain);
         }
     }
 }
 
 fn growth(runs: usize) {
-    println!("\ngrowth                 ours us: 1,024     2,048     4,096   4,096 / 2,048");
+    println!("\n{:<28} {:>9} {:>9} {:>9} {:>14}", "growth, ours us", "1,024", "2,048", "4,096", "4,096 / 2,048");
     for j in 0..kinds(1024).len() {
         let t: Vec<f64> = [1024, 2048, 4096].iter().map(|&n| { let k = &kinds(n)[j]; compare(runs, k.letters, &k.echoes).0 }).collect();
-        println!("{:<28} {:>9.2} {:>9.2} {:>9.2} {:>10.2}", kinds(1024)[j].name, t[0], t[1], t[2], t[2] / t[1]);
+        println!("{:<28} {:>9.2} {:>9.2} {:>9.2} {:>14.2}", kinds(1024)[j].name, t[0], t[1], t[2], t[2] / t[1]);
     }
 }
 
 fn counting(runs: usize) {
     let mut e = [0usize; 21];
     assert_eq!(count(26, 20) >> 2, plain_count(&mut e, 26, 0, 20));
-    let (ours, plain) = turns(runs / 10 + 1, || drop(opaque(count(26, 20))), || drop(opaque(plain_count(&mut e, opaque(26), 0, 20))));
+    let (ours, plain) = turns(runs / 10 + 1, || used(count(26, 20)), || used(plain_count(&mut e, opaque(26), 0, 20)));
     println!("\ncount, A 26, n 20: ours {:.0} us, plain {:.0} us, ratio {:.2}", ours, plain, ours / plain);
 }
 

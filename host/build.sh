@@ -1,0 +1,44 @@
+#!/bin/sh
+# build.sh NAME..: builds host/NAME.c or host/NAME.rs with the archive of crates/host into target/host/NAME, a static x86-64 program.
+# On Arm that file is a line that has the kit's emulator run it.
+set -eu
+cd "$(dirname "$0")/.."
+out=target/host
+archive=target/staticlib/libhost.a
+mkdir -p "$out"
+
+case $(uname -m) in
+aarch64)
+    cc=x86_64-linux-gnu-gcc cxx=x86_64-linux-gnu-g++ rustc=/usr/bin/rustc
+    kit=$(dirname "$(dirname "$(rt doc)")")
+    emulator=$kit/on/aarch64/toolchain/bin/qemu-x86_64
+    ;;
+*) cc=gcc cxx=g++ rustc=rustc emulator='' ;;
+esac
+
+quietly() { # COMMAND..: what it says counts only where it fails
+    "$@" >"$out/log" 2>&1 || {
+        cat "$out/log"
+        exit 1
+    }
+}
+
+quietly rt staticlib host
+# the header is plain C89, and C++ takes it
+for standard in c89 c99 c11; do
+    "$cc" -std=$standard -pedantic -Wall -Wextra -Werror -Iinclude -x c -fsyntax-only host/loader.c
+done
+"$cxx" -pedantic -Wall -Wextra -Werror -Iinclude -x c++ -fsyntax-only host/loader.c
+
+for name in "$@"; do
+    program=$out/$name.x86-64
+    if [ -e "host/$name.c" ]; then
+        "$cc" -std=c89 -O2 -static -Iinclude -o "$program" "host/$name.c" "$archive"
+    else
+        "$rustc" -O -C panic=abort --edition 2021 --crate-type staticlib --target x86_64-unknown-linux-gnu -o "$out/lib$name.a" "host/$name.rs"
+        # a static program warns of what it would load to look up a host's name, which none of these does
+        quietly "$cc" -static -o "$program" "$out/lib$name.a" "$archive"
+    fi
+    printf '#!/bin/sh\nexec %s "%s" "$@"\n' "$emulator" "$PWD/$program" >"$out/$name"
+    chmod +x "$out/$name"
+done
