@@ -9,3 +9,4 @@ pub mod Places
 pub mod Theorem
 pub mod Reasons
 pub mod Writing
+pub mod Tables

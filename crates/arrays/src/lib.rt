@@ -1,4 +1,6 @@
 // From echoes: judging an array, and the least row of one that stands.
+mod table;
+
 use rows::card_at;
 use rows::echo_at;
 use words::DONE;
@@ -12,9 +14,9 @@ ghost use lib.Dec.{eqb};
 ghost use lib.ListN.{length, take};
 ghost use Rattle.words.specs.Lists.{any, at, each};
 ghost use Rattle.words.specs.Rows.{card};
-ghost use Rattle.words.specs.Numbers.{letters};
+ghost use Rattle.words.specs.Numbers.{letters, limit};
 ghost use Rattle.words.specs.Least.{leastNot, nextCard, rebuilt};
-ghost use Rattle.words.specs.Stand.{possible, opens, weight, weighed, numberAt, verdict};
+ghost use Rattle.words.specs.Stand.{possible, opens, weight, weighed, verdict};
 ghost use Rattle.arrays.specs.Steps.{Passes, Sound};
 
 pub struct Verdict {
@@ -81,33 +83,14 @@ pub fn number_of(a: usize, e: &[u16], i: usize, m: usize) -> u8
     }
 }
 
-// The number of the value at place i + 1, where the first i places stand.
-fn number_at(a: usize, e: &[u16], i: usize) -> u8
-    requires { do ⌜ (i < (← ⟦e.len()⟧)) × Passes a (at (now e)) i ⌝ }
-    ensures { λ r. ⌜ r ≡ numberAt a (at (now (e .entry))) (i + 1) ⌝ }
-{
-    number_of(a, e, i, echo_at(e, i + 1))
-}
-
 // Number and first bad place of the array e over a letters.
 pub fn judge(a: usize, e: &[u16]) -> Verdict
+    requires { ⌜ length (now e) ≤ limit ⌝ }
     ensures { λ r. ⌜ (r .number, r .place) ≡ verdict a (now (e .entry)) ⌝ }
 {
-    let mut i = 0;
-    while i < e.len() {
-        let w = number_at(a, e, i);
-        if w != DONE {
-            return Verdict {
-                number: w,
-                place: i + 1,
-            };
-        }
-        i += 1;
-    }
-    Verdict {
-        number: DONE,
-        place: 0,
-    }
+    let mut t = [0u16; 4096];
+    table::copy(e, &mut t);
+    table::judge(a, &t, e.len())
 }
 
 // Whether c is the card of a possible place, where the echo of the place before is b: a walk along the chain.

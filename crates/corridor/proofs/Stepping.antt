@@ -38,6 +38,9 @@ module _ (A : ℕ) (e old : List ℕ) (n p : ℕ) (checked : (n, p) ≡ lent A (
     pub rebuild-letters : A ≤ letters
     rebuild-letters = lent-clear A (length e) (length old) clear .1
 
+    pub rebuild-within : length e ≤ limit
+    rebuild-within = lent-clear A (length e) (length old) clear .2
+
     pub rebuild-matches : length e ≡ length old
     rebuild-matches = sym (lent-clear A (length e) (length old) clear .3)
 

@@ -2,6 +2,7 @@
 use borrow.Author.Needs.{needs}
 use Rattle.words.specs.Outcomes.{judge-outcome}
 use Rattle.words.proofs.Checks.{refusal-stop, refusal-last}
+use Rattle.corridor.proofs.Stepping.{next-within}
 use Rattle.corridor.proofs.judge.Statement.{statement}
 use Rattle.corridor.proofs.judge.Tie as tie
 
@@ -13,7 +14,7 @@ unfolding judge-outcome
 returns c = search (needs, refusal-stop)
 
 judge-requires : tie.Need-judge-requires
-judge-requires c κs = search needs
+judge-requires c κs = search (needs, next-within)
 
 returns-2 : tie.Need-returns-2
 unfolding judge-outcome

@@ -12,7 +12,7 @@ returns : tie.Need-returns
 returns c = search (needs, next-refuses)
 
 judge-requires : tie.Need-judge-requires
-judge-requires c κs = search needs
+judge-requires c κs = search (needs, next-within)
 
 same-length : tie.Need-same-length
 same-length c = search needs

@@ -1,7 +1,7 @@
 -- `corridor::rebuild`. Assumes nothing.
 use borrow.Author.Needs.{needs}
 use Rattle.arrays.proofs.Places.{verdict-done}
-use Rattle.corridor.proofs.Stepping.{rebuild-refuses, rebuild-breaks, rebuild-letters, rebuild-matches, rebuild-least}
+use Rattle.corridor.proofs.Stepping.{rebuild-refuses, rebuild-breaks, rebuild-letters, rebuild-within, rebuild-matches, rebuild-least}
 use Rattle.corridor.proofs.rebuild.Statement.{statement}
 use Rattle.corridor.proofs.rebuild.Tie as tie
 
@@ -12,7 +12,7 @@ returns : tie.Need-returns
 returns c = search (needs, rebuild-refuses)
 
 judge-requires : tie.Need-judge-requires
-judge-requires c κs = search needs
+judge-requires c κs = search (needs, rebuild-within)
 
 returns-2 : tie.Need-returns-2
 returns-2 c = search (needs, rebuild-breaks)
