@@ -56,6 +56,9 @@ module _ (A : ℕ) (E : ℕ → ℕ) (i b : ℕ) (passes : Passes A E i) (is : b
   pub behind-in : (n : ℕ) → i ≤ n → b < n
   behind-in n h = omega (arith, behind-low)
 
+  pub behind-below : (n : ℕ) → i < n → b < n
+  behind-below n h = omega (arith, behind-low)
+
   pub behind-sound : Sound E (suc b)
   behind-sound = sound-part (suc b) behind-low (passes-sound passes)
 

@@ -8,29 +8,51 @@ use lib.ListN.{length, take, getD}
 use lib.Seq.{ext-getD, getD-take, length-take-le}
 use Rattle.words.specs.Lists.{firstOf, run, at, placed}
 use Rattle.words.specs.Rows.{Alike}
-use Rattle.words.specs.Numbers.{DONE, limit}
+use Rattle.words.specs.Numbers.{DONE, IMPOSSIBLE, limit}
 use Rattle.words.specs.Stand.{weighed, numberAt, fails, firstBad, verdict}
 use Rattle.words.proofs.Lists.{either, same?, placed-long, placed-same, placed-other}
 use Rattle.arrays.specs.Steps.{Passes}
 use Rattle.arrays.proofs.Rules.{passes-sound, sound-small}
 use Rattle.arrays.proofs.Alike.{weighed-alike}
-use Rattle.arrays.proofs.Judging.{passes-none, passes-more, bad-start, bad-more, bad-here, bad-none}
+use Rattle.arrays.proofs.Judging.{first-zero, first-above, number-there, passes-none, passes-more, bad-start, bad-more, bad-here, bad-none}
 
 -- the array of the first n entries has the table's echoes there
 array-alike : (t : List ℕ) (n i : ℕ) → i ≤ n → Alike (at t) (at (take n t)) i
 unfolding at
 array-alike t n i h = record { same = λ j l. sym (getD-take n t j 0 (omega arith)) }
 
--- the first i places of the array pass, and what is left answers for the whole
+-- the first i places of the array pass, place 1 among them, and what is left answers for the whole
 pub record Judged (A : ℕ) (t : List ℕ) (n i : ℕ) : Type 0 where
-  pub within : i ≤ n
+  pub later : i ≡ 0 → ⊥
   pub long : length (take n t) ≡ n
   pub passes : Passes A (at t) i
   pub left : firstBad A (take n t) ≡ firstOf (fails A (at (take n t))) (run (i + 1) (length (take n t) - i))
 
-pub judged-start : (A : ℕ) (t : List ℕ) (n : ℕ) → n ≤ limit → length t ≡ limit → Judged A t n 0
-judged-start A t n h e = record { within = omega arith; long = length-take-le n t (omega arith); passes = passes-none A (at t); left = bad-start A (take n t) }
+-- place 1
+module _ (A : ℕ) (t : List ℕ) (n : ℕ) (fits : n ≤ limit) (table : length t ≡ limit) where
+  array-long : length (take n t) ≡ n
+  array-long = length-take-le n t (omega arith)
 
+  pub judged-none : n ≡ 0 → (DONE, 0) ≡ verdict A (take n t)
+  judged-none z = bad-none A (take n t) 0 (bad-start A (take n t)) (omega (arith, array-long))
+
+  module _ (x : ℕ) (some : n ≡ 0 → ⊥) (first : x ≡ at t 1) where
+    there : x ≡ at (take n t) 1
+    there = first ∙ array-alike t n 1 (omega arith) .same 0 (omega arith)
+
+    pub judged-first : x ≡ 0 → Judged A t n 1
+    judged-first z = record {
+      later = λ e. omega arith;
+      long = array-long;
+      passes = passes-more A (at t) 0 DONE (number-there A (at t) 0 x DONE first (first-zero A (at t) 0 x refl z)) (passes-none A (at t)) refl;
+      left = bad-more A (take n t) 0 DONE (number-there A (at (take n t)) 0 x DONE there (first-zero A (at (take n t)) 0 x refl z)) (bad-start A (take n t)) refl;
+    }
+
+    pub judged-above : (x ≡ 0 → ⊥) → (IMPOSSIBLE, 1) ≡ verdict A (take n t)
+    judged-above d = bad-here A (take n t) 0 IMPOSSIBLE (number-there A (at (take n t)) 0 x IMPOSSIBLE there (first-above A (at (take n t)) 0 x refl d))
+        (bad-start A (take n t)) (omega (arith, array-long)) (λ z. omega arith)
+
+-- the places behind it
 module _ {A : ℕ} {t : List ℕ} {n i : ℕ} (judging : Judged A t n i) where
   module _ (w : ℕ) (is : w ≡ numberAt A (at t) (i + 1)) (inside : i < n) where
     number-same : w ≡ numberAt A (at (take n t)) (i + 1)
@@ -42,7 +64,7 @@ module _ {A : ℕ} {t : List ℕ} {n i : ℕ} (judging : Judged A t n i) where
 
     pub judged-more : w ≡ DONE → Judged A t n (i + 1)
     judged-more z = record {
-      within = omega arith;
+      later = λ z. omega arith;
       long = judging .long;
       passes = passes-more A (at t) i w is (judging .passes) z;
       left = bad-more A (take n t) i w number-same (judging .left) z;

@@ -12,7 +12,7 @@ ghost use Prim.Native.Nat.{ℕ, suc, _+_, _≤_, _<_};
 ghost use lib.ListN.{length, take};
 ghost use Rattle.words.specs.Lists.{at};
 ghost use Rattle.words.specs.Numbers.{limit};
-ghost use Rattle.words.specs.Stand.{opens, weight, weighed, numberAt, verdict};
+ghost use Rattle.words.specs.Stand.{opens, weight, numberAt, verdict};
 ghost use Rattle.arrays.specs.Steps.{Passes, Sound};
 
 // The echo at place i.
@@ -41,7 +41,8 @@ fn weigh(t: &[u16; 4096], b: usize, m: usize) -> u8
     }
 }
 
-// How many values are open where the echo of the place before is b. Along the chain the possible values with the echo 0 are as many.
+// How many values are open where the echo of the place before is b. Along the chain the possible values with the echo 0 are as many. What is left
+// behind the call is a sum alone: so this walk too runs as a loop.
 fn open_count(t: &[u16; 4096], b: usize) -> usize
     requires { ⌜ (b < limit) × Sound (at (now t)) (suc b) ⌝ }
     ensures counted { λ r. ⌜ r ≡ length (opens (at (now (t .entry))) b) ⌝ }
@@ -50,48 +51,50 @@ fn open_count(t: &[u16; 4096], b: usize) -> usize
     if b == 0 {
         1
     } else {
+        let top = echo(t, b + 1);
         let rest = open_count(t, echo(t, b));
-        if echo(t, b + 1) == 0 { rest + 1 } else { rest }
+        if top == 0 { rest + 1 } else { rest }
     }
 }
 
-// The number of the value m behind the first i places, which stand. The first step of each walk is settled here, before the call.
-fn number_of(a: usize, t: &[u16; 4096], i: usize, m: usize) -> u8
-    requires { ⌜ (i ≤ limit) × Passes a (at (now t)) i ⌝ }
-    ensures { λ r. ⌜ r ≡ weighed a (at (now (t .entry))) i m ⌝ }
-{
-    if i == 0 {
-        if m == 0 { DONE } else { IMPOSSIBLE }
-    } else {
-        let b = echo(t, i);
-        if b + 1 == m {
-            DONE
-        } else if 0 < m {
-            weigh(t, b, m)
-        } else if b == 0 {
-            if 1 < a { DONE } else { FULL }
-        } else if open_count(t, b) < a {
-            DONE
-        } else {
-            FULL
-        }
-    }
-}
-
-// The number of the value at place i + 1, where the first i places stand.
+// The number of the value at place i + 1 > 1, where the first i places stand. The first step of each walk is settled here, before the call.
 fn number_at(a: usize, t: &[u16; 4096], i: usize) -> u8
-    requires { ⌜ (i < limit) × Passes a (at (now t)) i ⌝ }
+    requires { ⌜ (i ≡ 0 → ⊥) × (i < limit) × Passes a (at (now t)) i ⌝ }
     ensures { λ r. ⌜ r ≡ numberAt a (at (now (t .entry))) (i + 1) ⌝ }
 {
-    number_of(a, t, i, echo(t, i + 1))
+    let b = echo(t, i);
+    let m = echo(t, i + 1);
+    if b + 1 == m {
+        DONE
+    } else if 0 < m {
+        weigh(t, b, m)
+    } else if b == 0 {
+        if 1 < a { DONE } else { FULL }
+    } else if open_count(t, b) < a {
+        DONE
+    } else {
+        FULL
+    }
 }
 
-// Number and first bad place of the array over a letters.
+// Number and first bad place of the array over a letters. At place 1 only 0 stands.
 pub fn judge(a: usize, t: &[u16; 4096], n: usize) -> Verdict
     requires { ⌜ (n ≤ limit) × (length (now t) ≡ limit) ⌝ }
     ensures { λ r. ⌜ (r .number, r .place) ≡ verdict a (take n (now (t .entry))) ⌝ }
 {
-    let mut i = 0;
+    if n == 0 {
+        return Verdict {
+            number: DONE,
+            place: 0,
+        };
+    }
+    if echo(t, 1) != 0 {
+        return Verdict {
+            number: IMPOSSIBLE,
+            place: 1,
+        };
+    }
+    let mut i = 1;
     while i < n {
         let w = number_at(a, t, i);
         if w != DONE {

@@ -22,17 +22,17 @@ abbrev open-count-below : ℕ → In 1 open-count-kinds.ps
 open-count-below t =
     and 1 open-count-kinds.ps (falls 1 open-count-kinds.ps _<_ μ-open-count t) open-count.Pre
 
-open-count-echo-requires : (t : ℕ) → open-count-lts.Need-echo-requires (echo-reads.Asked, echo-reads.Learnt, open-count-below t, open-count.Post) (open-count-at t) open-count.Post
-open-count-echo-requires t c κs = search needs
-
-open-count-open-count-requires : (t : ℕ) → open-count-lts.Need-open-count-requires (echo-reads.Asked, echo-reads.Learnt, open-count-below t, open-count.Post) (open-count-at t) open-count.Post
-open-count-open-count-requires t c κs = search (needs, next-at, next-in, next-sound)
-
 open-count-add-echo : (t : ℕ) → open-count-lts.Need-add-echo (echo-reads.Asked, echo-reads.Learnt, open-count-below t, open-count.Post) (open-count-at t) open-count.Post
 open-count-add-echo t c = search needs
 
+open-count-echo-requires : (t : ℕ) → open-count-lts.Need-echo-requires (echo-reads.Asked, echo-reads.Learnt, open-count-below t, open-count.Post) (open-count-at t) open-count.Post
+open-count-echo-requires t c κs = search needs
+
 open-count-echo-requires-2 : (t : ℕ) → open-count-lts.Need-echo-requires-2 (echo-reads.Asked, echo-reads.Learnt, open-count-below t, open-count.Post) (open-count-at t) open-count.Post
 open-count-echo-requires-2 t c κs = search needs
+
+open-count-open-count-requires : (t : ℕ) → open-count-lts.Need-open-count-requires (echo-reads.Asked, echo-reads.Learnt, open-count-below t, open-count.Post) (open-count-at t) open-count.Post
+open-count-open-count-requires t c κs = search (needs, next-at, next-in, next-sound)
 
 open-count-add-result : (t : ℕ) → open-count-lts.Need-add-result (echo-reads.Asked, echo-reads.Learnt, open-count-below t, open-count.Post) (open-count-at t) open-count.Post
 open-count-add-result t c = search (needs, few-fits)
@@ -50,10 +50,10 @@ pub +open-count-spec : {M : Type 1} → statement M
 +open-count-spec = close μ-open-count λ t. open-count-lts.spec (echo-reads.Asked, echo-reads.Learnt, open-count-below t, open-count.Post)
     (open-count-at t)
     open-count.Post
-    (open-count-echo-requires t)
-    (open-count-open-count-requires t)
     (open-count-add-echo t)
+    (open-count-echo-requires t)
     (open-count-echo-requires-2 t)
+    (open-count-open-count-requires t)
     (open-count-add-result t)
     (open-count-returns t)
     (open-count-returns-2 t)

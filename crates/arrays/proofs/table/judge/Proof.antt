@@ -1,7 +1,7 @@
 -- `table::judge`. Assumes nothing.
 use borrow.Author.Needs.{needs}
 use Prim.Native.Nat.{_-_}
-use Rattle.arrays.proofs.Tables.{Judged, judged-start, judged-more, judged-here, judged-done}
+use Rattle.arrays.proofs.Tables.{Judged, judged-none, judged-above, judged-first, judged-more, judged-here, judged-done}
 use Rattle.arrays.proofs.table.judge.Statement.{statement}
 use Rattle.arrays.proofs.table.judge.Tie as tie
 
@@ -11,17 +11,26 @@ Inv-loop a t n i₀ i = Judged a t n i
 abbrev μ-loop : tie.MeasureT-loop
 μ-loop a t n i₀ i = n - i
 
+returns : tie.Need-returns Inv-loop μ-loop
+returns c = search (needs, judged-none)
+
+echo-requires : tie.Need-echo-requires Inv-loop μ-loop
+echo-requires c κs = search needs
+
+returns-2 : tie.Need-returns-2 Inv-loop μ-loop
+returns-2 c = search (needs, judged-above)
+
 loop-holds : tie.Need-loop-holds Inv-loop μ-loop
-loop-holds c = search (needs, judged-start)
+loop-holds c = search (needs, judged-first)
 
 number-at-requires : tie.Need-number-at-requires Inv-loop μ-loop
 number-at-requires c κs = search needs
 
-add-t7 : tie.Need-add-t7 Inv-loop μ-loop
-add-t7 c = search needs
+add-t9 : tie.Need-add-t9 Inv-loop μ-loop
+add-t9 c = search needs
 
-returns : tie.Need-returns Inv-loop μ-loop
-returns c = search (needs, judged-here)
+returns-3 : tie.Need-returns-3 Inv-loop μ-loop
+returns-3 c = search (needs, judged-here)
 
 add-i : tie.Need-add-i Inv-loop μ-loop
 add-i c = search needs
@@ -32,8 +41,8 @@ loop-less c = search needs
 loop-again : tie.Need-loop-again Inv-loop μ-loop
 loop-again c = search (needs, judged-more)
 
-returns-2 : tie.Need-returns-2 Inv-loop μ-loop
-returns-2 c = search (needs, judged-done)
+returns-4 : tie.Need-returns-4 Inv-loop μ-loop
+returns-4 c = search (needs, judged-done)
 
 pub judge-spec : {M : Type 1} → statement M
 judge-spec =
@@ -41,11 +50,14 @@ judge-spec =
     (tie.spec
     Inv-loop
     μ-loop
+    returns
+    echo-requires
+    returns-2
     loop-holds
     number-at-requires
-    add-t7
-    returns
+    add-t9
+    returns-3
     add-i
     loop-less
     loop-again
-    returns-2)
+    returns-4)
