@@ -66,7 +66,7 @@ fn refused() {
 }
 
 // 0 1 2 .. and so on: the echoes of a row of one letter.
-fn rise(e: &mut [u16]) {
+pub fn rise(e: &mut [u16]) {
     let mut i = 0;
     while i < e.len() {
         e[i] = (i % 65536) as u16;
@@ -74,7 +74,7 @@ fn rise(e: &mut [u16]) {
     }
 }
 
-fn set_last(e: &mut [u16], v: u16) {
+pub fn set_last(e: &mut [u16], v: u16) {
     let n = e.len();
     if 0 < n {
         e[n - 1] = v;
