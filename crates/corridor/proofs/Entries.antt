@@ -1,20 +1,30 @@
 -- What the entries need of their checks, and the strips by their lengths: in the code's own terms. Assumes nothing.
 use mathlib.Core.Path.{_≡_, refl, sym, ap, subst, _∙_}
 use mathlib.Core.Bool.{Bool, true, false, cond}
-use mathlib.Core.List.{List, [], _∷_}
+use mathlib.Core.List.{List, [], _∷_, _++_}
 use Prim.Native.Nat.{ℕ, zero, suc, _-_, _≤_, _<_}
 use native.Mathlib.Omega.{arith}
 use lib.Dec.{leb}
 use lib.ListN.{length, take, drop, length-drop}
 use lib.Seq.{take-all, length-take-le}
-use borrow.Author.Tests.{le-leb, lt-leb}
-use Rattle.words.specs.Lists.{both}
-use Rattle.words.specs.Rows.{card, echo}
-use Rattle.words.specs.Numbers.{DONE, limit, cards, refusal, sizes, lent}
+use borrow.Author.Tests.{le-leb, lt-leb, ne-eqb}
+use Rattle.words.specs.Lists.{both, at}
+use Rattle.words.specs.Rows.{card, echo, echoes, reach, reaches, Small}
+use Rattle.words.specs.Numbers.{DONE, ROOM, DIFFERS, differing, named, letters, limit, long, matching, cards, unless, refusal, sizes, lent, rowed, paired}
+use Rattle.words.specs.Stand.{verdict}
+use Rattle.words.specs.Least.{LeastRow, rebuilt}
+use Rattle.words.specs.Sheet.{sheet}
+use Rattle.words.specs.Outcomes.{given, kept, sheet-outcome, guess-outcome, Rebuilds, refuses, breaks, rebuilds}
 use Rattle.words.specs.Strips.{closed, closing, overlap, joint, joining}
-use Rattle.words.proofs.Lists.{both-true, both-left, both-right, both-out, which, either}
-use Rattle.words.proofs.Checks.{refusal-clear, sizes-clear, lent-clear}
-use Rattle.rows.proofs.Borders.{echo-zero}
+use Rattle.words.proofs.Lists.{places-length, both-true, both-left, both-right, both-out, which, either}
+use Rattle.words.proofs.Checks.{refusal-stop, refusal-last, refusal-clear, long-clear, matching-clear, sizes-clear, lent-clear}
+use Rattle.words.proofs.Rows.{small-alike, alike-sym}
+use Rattle.rows.proofs.Borders.{echo-zero, echo-small}
+use Rattle.rows.proofs.Walks.{echoes-known, echoes-long}
+use Rattle.arrays.proofs.Places.{verdict-done}
+use Rattle.arrays.proofs.Theorem.{stands-verdict, verdict-stands, rebuilt-least}
+use Rattle.sheets.specs.Writing.{written}
+use Rattle.sheets.proofs.Outcome.{sheet-written}
 use Rattle.rows.proofs.Growing.{overlap-closes}
 
 -- the first n entries of a table at the limit
@@ -84,3 +94,83 @@ module _ (x y : List ℕ) where
 
 pub part-long : (k : ℕ) (l : List ℕ) → k ≤ length l → k ≡ length (take k l)
 part-long k l h = sym (length-take-le k l h)
+
+-- rebuilding, in the demand's words
+module _ (A : ℕ) (e old : List ℕ) (n p : ℕ) (checked : (n, p) ≡ lent A (length e) (length old)) where
+  pub rebuild-refuses : (n ≡ DONE → ⊥) → Rebuilds A e old (n, p) old
+  rebuild-refuses d = refuses d checked refl
+
+  module _ (done : n ≡ DONE) where
+    clear : lent A (length e) (length old) .0 ≡ DONE
+    clear = ap (λ (r : ℕ × ℕ). r .0) (sym checked) ∙ done
+
+    pub rebuild-letters : A ≤ letters
+    rebuild-letters = lent-clear A (length e) (length old) clear .1
+
+    pub rebuild-matches : length e ≡ length old
+    rebuild-matches = sym (lent-clear A (length e) (length old) clear .3)
+
+    module _ (w q : ℕ) (judged : (w, q) ≡ verdict A e) where
+      pub rebuild-breaks : (w ≡ DONE → ⊥) → Rebuilds A e old (w, q) old
+      rebuild-breaks d = breaks clear (λ s. d (ap (λ (r : ℕ × ℕ). r .0) (judged ∙ stands-verdict s))) judged refl
+
+      pub rebuild-least : (new : List ℕ) → w ≡ DONE → new ≡ rebuilt (at e) (length e) → Rebuilds A e old (DONE, 0) new
+      unfolding LeastRow
+      rebuild-least new z h =
+          let a = lent-clear A (length e) (length old) clear .0 in
+          rebuilds clear (subst (λ (x : List ℕ). LeastRow A e x) (sym h) (rebuilt-least a (verdict-stands a e (verdict-done A e w q judged z)))) refl
+
+-- the tables of a sheet
+pub table-small : (x e : List ℕ) → e ≡ echoes x → Small (at e) (length e)
+table-small x e q = subst (λ (n : ℕ). Small (at e) n) (sym (ap length q ∙ echoes-long x)) (small-alike (alike-sym (echoes-known x e q .right)) (echo-small (card x) (length x)))
+
+pub table-long : (x e : List ℕ) → e ≡ echoes x → length x ≤ limit → length e ≤ limit
+table-long x e q h = omega (arith, ap length q, echoes-long x)
+
+pub reach-long : (x r : List ℕ) → r ≡ reaches x → length x ≤ limit → length r ≤ limit
+unfolding reaches
+reach-long x r q h = omega (arith, ap length q, places-length (reach (card x) (length x)) (length x))
+
+pub sheet-refused : (A : ℕ) (x old : List ℕ) (n p : ℕ) → (n, p) ≡ rowed A x → (n ≡ DONE → ⊥) → (n, p, 0, old) ≡ sheet-outcome A x old
+unfolding sheet-outcome given kept
+sheet-refused A x old n p e d = subst (λ (S : ℕ × ℕ). (n, p, 0, old) ≡ told S) (refusal-stop (rowed A x) room (n, p) [] e d) (rw (ne-eqb n DONE d))
+  where
+    t : List ℕ
+    t = sheet A x
+
+    room : ℕ × ℕ
+    room = unless (leb (length t) (length old)) ROOM
+
+    told : ℕ × ℕ → ℕ × ℕ × ℕ × List ℕ
+    told S = (S .0, S .1, given S (length t), kept S (t ++ drop (length t) old) old)
+
+pub sheet-told : (A : ℕ) (x old new : List ℕ) (n p number len : ℕ) → (n, p) ≡ rowed A x → n ≡ DONE → (number, len, new) ≡ written (sheet A x) old
+    → (number, 0, len, new) ≡ sheet-outcome A x old
+sheet-told A x old new n p number len e z w = sheet-written A x old new number len (ap (λ (r : ℕ × ℕ). r .0) (sym e) ∙ z) w
+
+pub sheet-letters : (A : ℕ) (x : List ℕ) (n p : ℕ) → (n, p) ≡ rowed A x → n ≡ DONE → A ≤ letters
+sheet-letters A x n p e z = sizes-clear A (length x) (refusal-clear (sizes A (length x)) (cards A x) [] (ap (λ (r : ℕ × ℕ). r .0) (sym e) ∙ z) .0) .1
+
+-- two rows that no check refuses
+module _ (A : ℕ) (x g : List ℕ) (n p : ℕ) (checked : (n, p) ≡ paired A x g) (done : n ≡ DONE) where
+  lengths : (sizes A (length x) .0 ≡ DONE) × (refusal (long limit (length g) ∷ matching (length x) (length g) ∷ []) .0 ≡ DONE)
+  lengths = refusal-clear (sizes A (length x)) (long limit (length g)) (matching (length x) (length g) ∷ [])
+      (refusal-clear (refusal (sizes A (length x) ∷ long limit (length g) ∷ matching (length x) (length g) ∷ [])) (cards A x) (cards A g ∷ []) (ap (λ (r : ℕ × ℕ). r .0) (sym checked) ∙ done) .0)
+
+  pub pair-hidden : length x ≤ limit
+  pair-hidden = sizes-clear A (length x) (lengths .0) .2
+
+  pub pair-guess : length g ≤ limit
+  pair-guess = long-clear limit (length g) (refusal-clear (long limit (length g)) (matching (length x) (length g)) [] (lengths .1) .0)
+
+  pub pair-matches : length g ≡ length x
+  unfolding refusal
+  pair-matches = matching-clear (length x) (length g) (refusal-clear (long limit (length g)) (matching (length x) (length g)) [] (lengths .1) .1)
+
+pub difference-echoes : (x y e f : List ℕ) (r : ℕ) → e ≡ echoes x → f ≡ echoes y → r ≡ differing e f → r ≡ differing (echoes x) (echoes y)
+difference-echoes x y e f r p q z = rw (p, q) at z
+
+pub guess-answer : (A : ℕ) (x g : List ℕ) (n p d : ℕ) (s : ℕ × ℕ) → (n, p) ≡ paired A x g → n ≡ DONE → d ≡ differing (echoes x) (echoes g) → s ≡ named DIFFERS d
+    → s ≡ guess-outcome A x g
+unfolding guess-outcome
+guess-answer A x g n p d s e z q h = refusal-last (paired A x g) (named DIFFERS (differing (echoes x) (echoes g))) (n, p) s e z (h ∙ ap (named DIFFERS) q)

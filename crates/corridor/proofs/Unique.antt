@@ -1,19 +1,41 @@
 -- Each entry's contract determines its result and all lent memory: any two results that meet it on the same arguments are equal, and so is what every
 -- lent buffer holds. The statements cite the contracts themselves, `Post` of each function, so a changed contract is judged anew. Assumes nothing.
-use mathlib.Core.Path.{_≡_, sym, _∙_}
+use mathlib.Core.Path.{_≡_, refl, sym, ap, _∙_}
 use mathlib.Core.List.{List}
 use Prim.Native.Nat.{ℕ}
 use borrow.Fn.Kinds.{PK, RK, Out, Dens, resT, endedOf}
 use contract.Lifetimes.{Lfts}
 use denote.Triple.Clauses.{AtExit}
+use Rattle.words.specs.Least.{LeastRow}
+use Rattle.words.specs.Outcomes.{Rebuilds, refuses, breaks, rebuilds}
+use Rattle.listing.proofs.Order.{least-one}
 use Rattle.corridor.proofs.echoes.Reads as echoes
 use Rattle.corridor.proofs.echoes.Kinds as echoes-kinds
 use Rattle.corridor.proofs.looks.Reads as looks
 use Rattle.corridor.proofs.looks.Kinds as looks-kinds
+use Rattle.corridor.proofs.reach.Reads as reach
+use Rattle.corridor.proofs.reach.Kinds as reach-kinds
+use Rattle.corridor.proofs.judge.Reads as judge
+use Rattle.corridor.proofs.judge.Kinds as judge-kinds
+use Rattle.corridor.proofs.rebuild.Reads as rebuild
+use Rattle.corridor.proofs.rebuild.Kinds as rebuild-kinds
+use Rattle.corridor.proofs.sheet.Reads as sheet
+use Rattle.corridor.proofs.sheet.Kinds as sheet-kinds
+use Rattle.corridor.proofs.guess.Reads as guess
+use Rattle.corridor.proofs.guess.Kinds as guess-kinds
 use Rattle.corridor.proofs.closing.Reads as closing
 use Rattle.corridor.proofs.closing.Kinds as closing-kinds
 use Rattle.corridor.proofs.joining.Reads as joining
 use Rattle.corridor.proofs.joining.Kinds as joining-kinds
+
+abbrev number : ℕ × ℕ → ℕ
+number r = r .0
+
+abbrev told : ℕ × ℕ → List ℕ → ℕ × ℕ × List ℕ
+told r x = (r .0, r .1, x)
+
+both-same : {r s : ℕ × ℕ} {x y : List ℕ} → r ≡ s → x ≡ y → told r x ≡ told s y
+both-same {r} {s} {x} {y} p q = ap (λ (t : ℕ × ℕ). told t x) p ∙ ap (told s) q
 
 -- what the contract `post` says of two runs on the same arguments: `seen` shows the same of both
 abbrev Determines : (n : ℕ) (ps : List (PK n)) (r : RK n) → Out n ps r → {T : Type 0} → ((κs : Lfts n) → resT r κs .Denot → AtExit (endedOf n ps r) κs → T) → Type 0
@@ -34,3 +56,34 @@ closing-determined κs a x y s t p q = p ∙ sym q
 
 pub joining-determined : Determines 2 joining-kinds.ps joining-kinds.r joining.Post {T = List ℕ} (λ κs r s. r .now)
 joining-determined κs a x y s t p q = p ∙ sym q
+
+pub reach-determined : Determines 2 reach-kinds.ps reach-kinds.r reach.Post {T = ℕ × ℕ × List ℕ} (λ κs r s. (r .number, r .place, s .1 .1 .0 .now))
+reach-determined κs a x y s t p q = p ∙ sym q
+
+-- number, place, length and the buffer at exit
+pub sheet-determined : Determines 2 sheet-kinds.ps sheet-kinds.r sheet.Post {T = ℕ × ℕ × ℕ × List ℕ} (λ κs r s. (r .number, r .place, r .length, s .1 .1 .0 .now))
+sheet-determined κs a x y s t p q = p ∙ sym q
+
+-- number and place
+pub judge-determined : Determines 1 judge-kinds.ps judge-kinds.r judge.Post {T = ℕ × ℕ} (λ κs r s. (r .number, r .place))
+judge-determined κs a x y s t p q = p ∙ sym q
+
+pub guess-determined : Determines 2 guess-kinds.ps guess-kinds.r guess.Post {T = ℕ × ℕ} (λ κs r s. (r .number, r .place))
+guess-determined κs a x y s t p q = p ∙ sym q
+
+-- rebuilding, a relation in the demand's words: a checked array stands or does not, and there is one least row
+rebuilds-one : {A : ℕ} {e old new fresh : List ℕ} {r s : ℕ × ℕ} → Rebuilds A e old r new → Rebuilds A e old s fresh → told r new ≡ told s fresh
+unfolding LeastRow
+rebuilds-one (refuses d e k) (refuses c f l) = both-same (e ∙ sym f) (k ∙ sym l)
+rebuilds-one (refuses d e k) (breaks c n f l) = absurd (d (ap number e ∙ c))
+rebuilds-one (refuses d e k) (rebuilds c l f) = absurd (d (ap number e ∙ c))
+rebuilds-one (breaks c n e k) (refuses d f l) = absurd (d (ap number f ∙ c))
+rebuilds-one (breaks c n e k) (breaks d m f l) = both-same (e ∙ sym f) (k ∙ sym l)
+rebuilds-one {fresh} (breaks c n e k) (rebuilds d l f) = absurd (n (record { row = fresh; is = l .is }))
+rebuilds-one (rebuilds c l e) (refuses d f k) = absurd (d (ap number f ∙ c))
+rebuilds-one {new} (rebuilds c l e) (breaks d n f k) = absurd (n (record { row = new; is = l .is }))
+rebuilds-one (rebuilds c l e) (rebuilds d m f) = both-same (e ∙ sym f) (least-one l m)
+
+-- number, place and the row at exit
+pub rebuild-determined : Determines 2 rebuild-kinds.ps rebuild-kinds.r rebuild.Post {T = ℕ × ℕ × List ℕ} (λ κs r s. (r .number, r .place, s .1 .1 .0 .now))
+rebuild-determined κs a x y s t p q = rebuilds-one p q

@@ -10,7 +10,7 @@ use words::LIMIT;
 use words::LONG;
 use words::MISMATCH;
 ghost use mathlib.Core.Path.{_≡_};
-ghost use Rattle.words.specs.Numbers.{letter as letterOf, outside as outsideOf, named as namedOf, alphabet as alphabetOf, long as longOf, matching as matchingOf, cards as cardsOf, sizes as sizesOf, lent as lentOf, refusal};
+ghost use Rattle.words.specs.Numbers.{letter as letterOf, outside as outsideOf, named as namedOf, alphabet as alphabetOf, long as longOf, matching as matchingOf, cards as cardsOf, sizes as sizesOf, lent as lentOf, paired as pairedOf, limit, refusal};
 ghost use mathlib.Core.List.{[], _∷_};
 ghost use lib.ListN.{length};
 
@@ -162,4 +162,34 @@ pub fn row_and_slice(a: usize, row: &[u8], m: usize) -> Answer
         return r;
     }
     cards(a, row)
+}
+
+// 1, 2, then 3: two rows of one length.
+fn two_lengths(a: usize, n: usize, m: usize) -> Answer
+    ensures { λ r. ⌜ (r .number, r .place) ≡ refusal (sizesOf a n ∷ longOf limit m ∷ matchingOf n m ∷ []) ⌝ }
+{
+    let r = sizes(a, n);
+    if r.number != DONE {
+        return r;
+    }
+    let r = long(LIMIT, m);
+    if r.number != DONE {
+        return r;
+    }
+    matching(n, m)
+}
+
+// 1, 2, 3, then 4: the hidden row before the guess.
+pub fn two_rows(a: usize, hidden: &[u8], guess: &[u8]) -> Answer
+    ensures { λ r. ⌜ (r .number, r .place) ≡ pairedOf a (now (hidden .entry)) (now (guess .entry)) ⌝ }
+{
+    let r = two_lengths(a, hidden.len(), guess.len());
+    if r.number != DONE {
+        return r;
+    }
+    let r = cards(a, hidden);
+    if r.number != DONE {
+        return r;
+    }
+    cards(a, guess)
 }

@@ -1,15 +1,15 @@
 // Claybobbin: every entry open to callers, and nothing else is open. Each takes every input and refuses what is bad by number and place.
 mod checks;
+mod tables;
 
+use words::DIFFERS;
 use words::DONE;
 use words::LIMIT;
 ghost use mathlib.Core.Path.{_≡_};
-ghost use Prim.Native.Nat.{_≤_, _<_};
+ghost use Prim.Native.Nat.{_≤_};
 ghost use lib.ListN.{length};
-ghost use Rattle.words.specs.Numbers.{limit};
-ghost use Rattle.words.specs.Rows.{card, echo, looks as looksOf};
-ghost use Rattle.words.specs.Strips.{closed, closing as closingOf, overlap, joint, joining as joiningOf};
-ghost use Rattle.words.specs.Outcomes.{echoes-outcome, looks-outcome};
+ghost use Rattle.words.specs.Strips.{closed, closing as closingOf, joint, joining as joiningOf};
+ghost use Rattle.words.specs.Outcomes.{echoes-outcome, reach-outcome, looks-outcome, sheet-outcome, guess-outcome, judge-outcome, Rebuilds};
 
 // A number and its place; 0 at place 0 is done.
 pub struct Answer {
@@ -36,16 +36,6 @@ pub fn echoes(a: usize, row: &[u8], out: &mut [u16]) -> Answer
     answer
 }
 
-// The looks of a row within the limit.
-fn looks_within(row: &[u8]) -> usize
-    requires { ⌜ length (now row) ≤ limit ⌝ }
-    ensures { λ r. ⌜ r ≡ looksOf (now (row .entry)) ⌝ }
-{
-    let n = row.len();
-    let mut table = [0u16; 4096];
-    rows::row_looks(row, &mut table[..n])
-}
-
 // The looks of the row. Numbers 1, 2 and 4.
 pub fn looks(a: usize, row: &[u8]) -> Counted
     ensures { λ r. ⌜ (r .number, r .place, r .count) ≡ looks-outcome a (now (row .entry)) ⌝ }
@@ -58,22 +48,12 @@ pub fn looks(a: usize, row: &[u8]) -> Counted
             count: 0,
         };
     }
-    let k = looks_within(row);
+    let k = tables::looks_within(row);
     Counted {
         number: r.number,
         place: r.place,
         count: k as u64,
     }
-}
-
-// The echo of the last place of a row within the limit that is not empty.
-fn last_within(row: &[u8]) -> usize
-    requires { ⌜ (0 < length (now row)) × (length (now row) ≤ limit) ⌝ }
-    ensures { λ r. ⌜ (r ≡ echo (card (now (row .entry))) (length (now (row .entry)))) × (r ≤ length (now (row .entry))) ⌝ }
-{
-    let n = row.len();
-    let mut table = [0u16; 4096];
-    rows::last_echo(row, &mut table[..n])
 }
 
 // The length of the closing strip.
@@ -85,7 +65,7 @@ fn closing_length(row: &[u8]) -> usize
     } else if LIMIT < row.len() {
         0
     } else {
-        last_within(row)
+        tables::last_within(row)
     }
 }
 
@@ -95,16 +75,6 @@ pub fn closing(row: &[u8]) -> &[u8]
 {
     let from = row.len() - closing_length(row);
     &row[from..]
-}
-
-// The overlap of two rows, the right one within the limit and not empty.
-fn overlap_within(left: &[u8], right: &[u8]) -> usize
-    requires { ⌜ (0 < length (now right)) × (length (now right) ≤ limit) ⌝ }
-    ensures { λ r. ⌜ r ≡ overlap (card (now (left .entry))) (length (now (left .entry))) (card (now (right .entry))) (length (now (right .entry))) ⌝ }
-{
-    let m = right.len();
-    let mut table = [0u16; 4096];
-    rows::overlap(left, right, &mut table[..m])
 }
 
 // The length of the joining strip.
@@ -118,7 +88,7 @@ fn joining_length(left: &[u8], right: &[u8]) -> usize
     } else if LIMIT < left.len() {
         0
     } else {
-        overlap_within(left, right)
+        tables::overlap_within(left, right)
     }
 }
 
@@ -128,4 +98,91 @@ pub fn joining<'l, 'r>(left: &'l [u8], right: &'r [u8]) -> &'r [u8]
 {
     let k = joining_length(left, right);
     &right[..k]
+}
+
+// Writes the reach table of the row into out, which has as many entries. Numbers 1, 2, 3 and 4.
+pub fn reach(a: usize, row: &[u8], out: &mut [u16]) -> Answer
+    ensures { λ r. ⌜ (r .number, r .place, now (out .exit)) ≡ reach-outcome a (now (row .entry)) (now (out .entry)) ⌝ }
+{
+    let checked = checks::row_and_slice(a, row, out.len());
+    if checked.number != DONE {
+        return checked;
+    }
+    rows::reach::reaches(row, out);
+    checked
+}
+
+// Judges the array: 0, or the number and place of the first echo that does not stand. Numbers 1, 2, 5, 6 and 7.
+pub fn judge(a: usize, e: &[u16]) -> Answer
+    ensures { λ r. ⌜ (r .number, r .place) ≡ judge-outcome a (now (e .entry)) ⌝ }
+{
+    let r = checks::sizes(a, e.len());
+    if r.number != DONE {
+        return r;
+    }
+    let v = arrays::judge(a, e);
+    Answer {
+        number: v.number,
+        place: v.place,
+    }
+}
+
+// Judges the array and hands back the least row that has it, in a buffer with as many entries. Numbers 1, 2, 3, 5, 6 and 7.
+pub fn rebuild(a: usize, e: &[u16], row: &mut [u8]) -> Answer
+    ensures { λ r. ⌜ Rebuilds a (now (e .entry)) (now (row .entry)) (r .number, r .place) (now (row .exit)) ⌝ }
+{
+    let r = checks::lent(a, e.len(), row.len());
+    if r.number != DONE {
+        return r;
+    }
+    let v = arrays::judge(a, e);
+    if v.number != DONE {
+        return Answer {
+            number: v.number,
+            place: v.place,
+        };
+    }
+    arrays::rebuild(a, e, row);
+    Answer {
+        number: DONE,
+        place: 0,
+    }
+}
+
+// The same with a length, which is 0 beside every number but 0.
+pub struct Written {
+    pub number: u8,
+    pub place: usize,
+    pub length: usize,
+}
+
+// Writes the sheet of the row into the buffer; the bytes behind it stay. Numbers 1, 2, 4 and 8.
+pub fn sheet(a: usize, row: &[u8], buf: &mut [u8]) -> Written
+    ensures { λ r. ⌜ (r .number, r .place, r .length, now (buf .exit)) ≡ sheet-outcome a (now (row .entry)) (now (buf .entry)) ⌝ }
+{
+    let r = checks::whole_row(a, row);
+    if r.number != DONE {
+        return Written {
+            number: r.number,
+            place: r.place,
+            length: 0,
+        };
+    }
+    let w = tables::sheet_within(a, row, buf);
+    Written {
+        number: w.number,
+        place: 0,
+        length: w.length,
+    }
+}
+
+// Answers a guess at the hidden row: 0 where its echoes are the hidden row's, else 10 at the first place where they differ. Numbers 1, 2, 3, 4 and 10.
+pub fn guess(a: usize, hidden: &[u8], guess: &[u8]) -> Answer
+    ensures { λ r. ⌜ (r .number, r .place) ≡ guess-outcome a (now (hidden .entry)) (now (guess .entry)) ⌝ }
+{
+    let r = checks::two_rows(a, hidden, guess);
+    if r.number != DONE {
+        return r;
+    }
+    checks::named(DIFFERS, tables::difference_within(hidden, guess))
 }

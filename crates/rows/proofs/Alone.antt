@@ -12,7 +12,7 @@ use Rattle.words.specs.Rows.{card, Small, Alike, echo, echoes, chain, reach, re
 use Rattle.words.proofs.Lists.{In, any-in, any-out, greatest-low, greatest-passes, greatest-most, each-place, each-only, places-length}
 use Rattle.words.proofs.Rows.{small-less, small-alike, alike-sym, chain-zero, chain-alike, looks-alike}
 use Rattle.rows.specs.Border.{looksOf}
-use Rattle.rows.specs.Reach.{onChain, reachOf, reachesOf, periodsOf}
+use Rattle.rows.specs.Reach.{onChain, reachOf, reachesOf, periodsAlong, periodsOf}
 use Rattle.rows.proofs.Borders.{echo-below, echo-small, chain-borders}
 use Rattle.rows.proofs.Looking.{looks-alone}
 use Rattle.rows.proofs.Reaching.{reach-low, reach-chain, reach-whole}
@@ -96,7 +96,7 @@ module _ (x : List ℕ) where
       (λ d h. each-place (reach (card x) (length x)) (length x) d h ∙ reach-alone (card x) (at (echoes x)) (length x) row-alike d h))
 
   pub periods-echoes : periods x ≡ periodsOf (echoes x)
-  unfolding periods periodsOf at
+  unfolding periods periodsOf periodsAlong at
   periods-echoes = rw (echoes-long x) (ap (each (λ k. length x - k)) (borders-alone (card x) (at (echoes x)) (length x) row-alike refl))
 
   pub looks-echoes : looks x ≡ looksOf (at (echoes x)) (length (echoes x))

@@ -22,9 +22,13 @@ reachOf E n (suc (suc d)) = greatest (λ k. onChain E (suc d + k) k) (suc (n - s
 unfoldable pub reachesOf : List ℕ → List ℕ
 reachesOf e = each (reachOf (at e) (length e)) (places (length e))
 
--- the periods of the rows with the echoes e: their length less each number above 0 on the chain of the last place
+-- the periods of n along the chain from b: n less each number on it above 0
+unfoldable pub periodsAlong : (ℕ → ℕ) → ℕ → ℕ → List ℕ
+periodsAlong E n b = each (λ k. n - k) (keep (ltb 0) (chain E b))
+
+-- the periods of the rows with the echoes e: along the chain of the last place
 unfoldable pub periodsOf : List ℕ → List ℕ
-periodsOf e = each (λ k. length e - k) (keep (ltb 0) (chain (at e) (at e (length e))))
+periodsOf e = periodsAlong (at e) (length e) (at e (length e))
 
 -- the reaches of the first i places of x stand in t, and the window that is kept lies behind the first l cards; l = 0 is no window
 pub record Reaching (x t : List ℕ) (l i : ℕ) : Type 0 where

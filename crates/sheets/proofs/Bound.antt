@@ -11,7 +11,8 @@ use Rattle.words.specs.Numbers.{letters, limit}
 use Rattle.words.specs.Sheet.{Line, decimal, fields, line, text}
 use Rattle.words.proofs.Lists.{In, here, there, In-nil, In-cons, In-each-out, either}
 use Rattle.words.proofs.Rows.{down-ind}
-use Rattle.sheets.specs.Tables.{periodsAlong, periodsLine, tableLines}
+use Rattle.rows.specs.Reach.{periodsAlong, periodsOf}
+use Rattle.sheets.specs.Tables.{periodsLine, tableLines}
 use Rattle.sheets.proofs.Decimal.{decimal-width}
 use Rattle.sheets.proofs.Reading.{text-nil, text-cons}
 use Rattle.sheets.proofs.Periods.{periods-zero, periods-suc, last-low}
@@ -53,7 +54,7 @@ one-low k h m i = either (In-cons i) (λ e. omega arith) (λ j. absurd (In-nil j
 
 pub sheet-short : (n A k : ℕ) (e r : List ℕ) → n ≤ limit → A ≤ letters → k < 10000 → length e ≤ limit → Small (at e) (length e) → length r ≤ limit → ((m : ℕ) → In m r → m ≤ limit)
     → length (text (tableLines n A e r k)) < 61500
-unfolding tableLines periodsLine
+unfolding tableLines periodsLine periodsOf
 sheet-short n A k e r hn hA hk he s hr h = let z : length (text (tableLines n A e r k)) ≤ 61486 = lines in omega arith
   where
     top : (m : ℕ) → In m (n ∷ A ∷ []) → m < 10000

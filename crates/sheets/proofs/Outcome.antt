@@ -5,21 +5,24 @@ use mathlib.Core.List.{List, [], _∷_, _++_}
 use Prim.Native.Nat.{ℕ}
 use lib.Dec.{leb}
 use lib.ListN.{length, drop}
-use Rattle.words.specs.Lists.{at}
-use Rattle.words.specs.Rows.{echoes, reaches, periods, looks}
+use Rattle.words.specs.Rows.{echoes, reaches, looks}
 use Rattle.words.specs.Numbers.{DONE, ROOM, rowed, unless}
 use Rattle.words.specs.Sheet.{lines, text, sheet}
 use Rattle.words.specs.Outcomes.{sheet-outcome, given, kept}
 use Rattle.words.proofs.Lists.{which, either}
 use Rattle.words.proofs.Checks.{refusal-last}
 use Rattle.sheets.specs.Writing.{written}
-use Rattle.sheets.specs.Tables.{periodsAlong, periodsLine, tableLines}
+use Rattle.rows.proofs.Alone.{periods-echoes}
+use Rattle.sheets.specs.Tables.{periodsLine, tableLines}
 
 -- the sheet of a row is the text of its tables
-pub sheet-tables : (A : ℕ) (x : List ℕ) → periods x ≡ periodsAlong (at (echoes x)) (length (echoes x)) (at (echoes x) (length (echoes x)))
-    → sheet A x ≡ text (tableLines (length x) A (echoes x) (reaches x) (looks x))
+pub sheet-tables : (A : ℕ) (x : List ℕ) → sheet A x ≡ text (tableLines (length x) A (echoes x) (reaches x) (looks x))
 unfolding sheet lines tableLines periodsLine
-sheet-tables A x p = rw p
+sheet-tables A x = rw (periods-echoes x)
+
+pub tables-written : (A k : ℕ) (x e r old : List ℕ) (S : ℕ × ℕ × List ℕ) → e ≡ echoes x → r ≡ reaches x → k ≡ looks x
+    → S ≡ written (text (tableLines (length x) A e r k)) old → S ≡ written (sheet A x) old
+tables-written A k x e r old S p q z h = rw (p, q, z, ← sheet-tables A x) at h
 
 room-place : (t : Bool) → 0 ≡ unless t ROOM .1
 unfolding unless

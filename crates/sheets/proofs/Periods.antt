@@ -13,7 +13,8 @@ use Rattle.words.specs.Numbers.{limit}
 use Rattle.words.specs.Sheet.{decimal, fields, line, wordPeriods}
 use Rattle.words.proofs.Rows.{chain-zero, chain-suc}
 use Rattle.sheets.specs.Writing.{Put}
-use Rattle.sheets.specs.Tables.{periodsAlong, periodsLine}
+use Rattle.rows.specs.Reach.{periodsAlong, periodsOf}
+use Rattle.sheets.specs.Tables.{periodsLine}
 
 pub periods-zero : (E : ℕ → ℕ) (n : ℕ) → periodsAlong E n 0 ≡ []
 unfolding periodsAlong keep each
@@ -77,7 +78,7 @@ last-low e r s z = go (length e) (omega arith) z
     go (suc n) h z = omega (arith, s .below n h)
 
 pub periods-split : (e : List ℕ) (b : ℕ) → b ≡ at e (length e) → line (periodsLine e) ≡ wordPeriods ++ fields (periodsAlong (at e) (length e) b)
-unfolding line periodsLine
+unfolding line periodsLine periodsOf
 periods-split e b z = ap (λ (k : ℕ). wordPeriods ++ fields (periodsAlong (at e) (length e) k)) (sym z)
 
 -- how long they are

@@ -9,8 +9,9 @@ ghost use Rattle.words.specs.Lists.{at};
 ghost use Rattle.words.specs.Rows.{Small};
 ghost use Rattle.words.specs.Numbers.{limit};
 ghost use Rattle.words.specs.Sheet.{decimal, fields, line, text};
+ghost use Rattle.rows.specs.Reach.{periodsAlong};
 ghost use Rattle.sheets.specs.Writing.{Put, written};
-ghost use Rattle.sheets.specs.Tables.{periodsAlong, periodsLine, tableLines, lineCount, nth};
+ghost use Rattle.sheets.specs.Tables.{periodsLine, tableLines, lineCount, nth};
 
 // How many lines a sheet has.
 const LINES: usize = 5;

@@ -7,10 +7,10 @@ use native.Mathlib.Omega.{arith}
 use lib.Dec.{ltb, leb, eqb}
 use lib.ListN.{length}
 use borrow.Author.Tests.{eq-eqb, ne-eqb, le-leb, lt-leb, lt-ltb, le-ltb, leb-true, eqb-true}
-use Rattle.words.specs.Lists.{both, firstOf, run, places}
+use Rattle.words.specs.Lists.{both, firstOf, run, places, at}
 use Rattle.words.specs.Rows.{card}
 use Rattle.words.specs.Outcomes.{kept, given, answered, counted}
-use Rattle.words.specs.Numbers.{DONE, ALPHABET, LONG, MISMATCH, CARD, letters, firstLetter, letter, foreign, outside, named, unless, alphabet, long, matching, cards, refusal, sizes, lent, limit}
+use Rattle.words.specs.Numbers.{DONE, ALPHABET, LONG, MISMATCH, CARD, letters, firstLetter, letter, foreign, outside, differs, differing, named, unless, alphabet, long, matching, cards, refusal, sizes, lent, limit}
 use Rattle.words.proofs.Lists.{which, either, same?, both-out, both-true, both-left, both-right, first-start, first-here, first-more, first-none}
 
 pub alphabet-done : (A : ℕ) → (A ≡ 0 → ⊥) → A ≤ letters → (DONE, 0) ≡ alphabet A
@@ -148,3 +148,21 @@ counted-none n p R k e d = subst (λ (S : ℕ × ℕ). (n, p, 0) ≡ counted S k
 pub counted-some : (n p : ℕ) (R : ℕ × ℕ) (k m : ℕ) → (n, p) ≡ R → n ≡ DONE → m ≡ k → (n, p, m) ≡ counted R k
 unfolding counted given
 counted-some n p R k m e z q = subst (λ (S : ℕ × ℕ). (n, p, m) ≡ counted S k) e (rw (eq-eqb n DONE z) (rw q))
+
+-- the walk over two arrays
+pub differing-start : (e f : List ℕ) → differing e f ≡ firstOf (differs e f) (run (0 + 1) (length e - 0))
+unfolding differing
+differing-start e f = first-start (differs e f) (length e)
+
+module _ (e f : List ℕ) (i : ℕ) (left : differing e f ≡ firstOf (differs e f) (run (i + 1) (length e - i))) where
+  pub differing-none : length e ≤ i → 0 ≡ differing e f
+  differing-none h = first-none (differs e f) (differing e f) i (length e) left h
+
+  module _ (a b : ℕ) (here : a ≡ at e (i + 1)) (there : b ≡ at f (i + 1)) where
+    pub differing-here : i < length e → (a ≡ b → ⊥) → i + 1 ≡ differing e f
+    unfolding differs
+    differing-here h d = first-here (differs e f) (differing e f) i (length e) left h (ap not (ne-eqb (at e (i + 1)) (at f (i + 1)) (λ z. d (here ∙ z ∙ sym there))))
+
+    pub differing-more : a ≡ b → differing e f ≡ firstOf (differs e f) (run (i + 1 + 1) (length e - (i + 1)))
+    unfolding differs
+    differing-more z = first-more (differs e f) (differing e f) i (length e) left (ap not (eq-eqb (at e (i + 1)) (at f (i + 1)) (sym here ∙ z ∙ there)))

@@ -125,3 +125,8 @@ lent A n m = refusal (sizes A n ∷ matching n m ∷ [])
 -- 1, 2, then 4: a row
 abbrev pub rowed : ℕ → List ℕ → ℕ × ℕ
 rowed A x = refusal (sizes A (length x) ∷ cards A x ∷ [])
+
+-- 1, 2, 3, then 4: two rows of one length, the hidden row x before the guess g
+abbrev pub paired : ℕ → List ℕ → List ℕ → ℕ × ℕ
+paired A x g =
+    refusal (refusal (sizes A (length x) ∷ long limit (length g) ∷ matching (length x) (length g) ∷ []) ∷ cards A x ∷ cards A g ∷ [])

@@ -9,7 +9,7 @@ use lib.Dec.{leb, eqb}
 use lib.ListN.{length, drop}
 use Rattle.words.specs.Lists.{at}
 use Rattle.words.specs.Rows.{echoes, reaches, looks}
-use Rattle.words.specs.Numbers.{DONE, MISMATCH, ROOM, LAST, DIFFERS, limit, countLimit, differing, named, unless, alphabet, long, matching, cards, refusal, sizes, lent, rowed}
+use Rattle.words.specs.Numbers.{DONE, MISMATCH, ROOM, LAST, DIFFERS, limit, countLimit, differing, named, unless, alphabet, long, matching, cards, refusal, sizes, lent, rowed, paired}
 use Rattle.words.specs.Stand.{Stands, verdict}
 use Rattle.words.specs.Least.{before, LeastRow, rebuilt}
 use Rattle.words.specs.Listing.{standing, listing, count, First, Next, StandsAfter, head, behind}
@@ -51,10 +51,7 @@ sheet-outcome A x old =
 
 -- guess: number and place; g is the guess at the hidden row x
 unfoldable pub guess-outcome : ℕ → List ℕ → List ℕ → ℕ × ℕ
-guess-outcome A x g = refusal (
-    sizes A (length x) ∷ long limit (length g) ∷ matching (length x) (length g) ∷ cards A x ∷ cards A g
-    ∷ named DIFFERS (differing (echoes x) (echoes g)) ∷ []
-    )
+guess-outcome A x g = refusal (paired A x g ∷ named DIFFERS (differing (echoes x) (echoes g)) ∷ [])
 
 -- judge: number and place
 unfoldable pub judge-outcome : ℕ → List ℕ → ℕ × ℕ
@@ -67,8 +64,8 @@ count-outcome A n = counted (refusal (alphabet A ∷ long countLimit n ∷ [])) 
 -- rebuild: an array that stands gives the least row; one that does not, its verdict, and the buffer as it came
 pub data Rebuilds (A : ℕ) (e old : List ℕ) (r : ℕ × ℕ) (new : List ℕ) : Type 0 where
   refuses : (r .0 ≡ DONE → ⊥) → r ≡ lent A (length e) (length old) → new ≡ old → Rebuilds A e old r new
-  breaks : lent A (length e) (length old) ≡ (DONE, 0) → (Stands A e → ⊥) → r ≡ verdict A e → new ≡ old → Rebuilds A e old r new
-  rebuilds : lent A (length e) (length old) ≡ (DONE, 0) → LeastRow A e new → r ≡ (DONE, 0) → Rebuilds A e old r new
+  breaks : lent A (length e) (length old) .0 ≡ DONE → (Stands A e → ⊥) → r ≡ verdict A e → new ≡ old → Rebuilds A e old r new
+  rebuilds : lent A (length e) (length old) .0 ≡ DONE → LeastRow A e new → r ≡ (DONE, 0) → Rebuilds A e old r new
 
 unfoldable pub rebuild-rule : ℕ → List ℕ → List ℕ → ℕ × ℕ × List ℕ
 rebuild-rule A e old = answered (refusal (lent A (length e) (length old) ∷ verdict A e ∷ [])) (rebuilt (at e) (length e)) old
@@ -76,7 +73,7 @@ rebuild-rule A e old = answered (refusal (lent A (length e) (length old) ∷ ver
 -- first: the least standing array of n places
 pub data Starts (A n : ℕ) (old : List ℕ) (r : ℕ × ℕ) (new : List ℕ) : Type 0 where
   refuses : (r .0 ≡ DONE → ⊥) → r ≡ lent A n (length old) → new ≡ old → Starts A n old r new
-  starts : lent A n (length old) ≡ (DONE, 0) → First A n new → r ≡ (DONE, 0) → Starts A n old r new
+  starts : lent A n (length old) .0 ≡ DONE → First A n new → r ≡ (DONE, 0) → Starts A n old r new
 
 unfoldable pub first-rule : ℕ → ℕ → List ℕ → ℕ × ℕ × List ℕ
 first-rule A n old = answered (lent A n (length old)) (head (listing (standing A) n [])) old
@@ -84,9 +81,9 @@ first-rule A n old = answered (lent A n (length old)) (head (listing (standing A
 -- next: the least standing array of the same length that is greater; 9 where there is none; one that does not stand, its verdict
 pub data Steps (A : ℕ) (e : List ℕ) (r : ℕ × ℕ) (new : List ℕ) : Type 0 where
   refuses : (r .0 ≡ DONE → ⊥) → r ≡ sizes A (length e) → new ≡ e → Steps A e r new
-  breaks : sizes A (length e) ≡ (DONE, 0) → (Stands A e → ⊥) → r ≡ verdict A e → new ≡ e → Steps A e r new
-  ends : sizes A (length e) ≡ (DONE, 0) → Stands A e → ((z : List ℕ) → StandsAfter A e z → ⊥) → r ≡ (LAST, 0) → new ≡ e → Steps A e r new
-  steps : sizes A (length e) ≡ (DONE, 0) → Stands A e → Next A e new → r ≡ (DONE, 0) → Steps A e r new
+  breaks : sizes A (length e) .0 ≡ DONE → (Stands A e → ⊥) → r ≡ verdict A e → new ≡ e → Steps A e r new
+  ends : sizes A (length e) .0 ≡ DONE → Stands A e → ((z : List ℕ) → StandsAfter A e z → ⊥) → r ≡ (LAST, 0) → new ≡ e → Steps A e r new
+  steps : sizes A (length e) .0 ≡ DONE → Stands A e → Next A e new → r ≡ (DONE, 0) → Steps A e r new
 
 unfoldable pub next-rule : ℕ → List ℕ → ℕ × ℕ × List ℕ
 next-rule A e =

@@ -1,8 +1,8 @@
--- `corridor::looks_within`. Assumes nothing.
+-- `tables::looks_within`. Assumes nothing.
 use borrow.Author.Needs.{needs}
 use Rattle.corridor.proofs.Entries.{prefix-long}
-use Rattle.corridor.proofs.looks_within.Statement.{statement}
-use Rattle.corridor.proofs.looks_within.Tie as tie
+use Rattle.corridor.proofs.tables.looks_within.Statement.{statement}
+use Rattle.corridor.proofs.tables.looks_within.Tie as tie
 
 array-borrow-prefix-table : tie.Need-array-borrow-prefix-table
 array-borrow-prefix-table c = search needs

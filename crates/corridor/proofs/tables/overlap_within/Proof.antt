@@ -1,8 +1,8 @@
--- `corridor::overlap_within`. Assumes nothing.
+-- `tables::overlap_within`. Assumes nothing.
 use borrow.Author.Needs.{needs}
 use Rattle.corridor.proofs.Entries.{prefix-long}
-use Rattle.corridor.proofs.overlap_within.Statement.{statement}
-use Rattle.corridor.proofs.overlap_within.Tie as tie
+use Rattle.corridor.proofs.tables.overlap_within.Statement.{statement}
+use Rattle.corridor.proofs.tables.overlap_within.Tie as tie
 
 array-borrow-prefix-table : tie.Need-array-borrow-prefix-table
 array-borrow-prefix-table c = search needs

@@ -1,8 +1,8 @@
--- `corridor::last_within`. Assumes nothing.
+-- `tables::last_within`. Assumes nothing.
 use borrow.Author.Needs.{needs}
 use Rattle.corridor.proofs.Entries.{prefix-long}
-use Rattle.corridor.proofs.last_within.Statement.{statement}
-use Rattle.corridor.proofs.last_within.Tie as tie
+use Rattle.corridor.proofs.tables.last_within.Statement.{statement}
+use Rattle.corridor.proofs.tables.last_within.Tie as tie
 
 array-borrow-prefix-table : tie.Need-array-borrow-prefix-table
 array-borrow-prefix-table c = search needs

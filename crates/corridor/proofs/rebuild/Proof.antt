@@ -1,0 +1,39 @@
+-- `corridor::rebuild`. Assumes nothing.
+use borrow.Author.Needs.{needs}
+use Rattle.arrays.proofs.Places.{verdict-done}
+use Rattle.corridor.proofs.Entries.{rebuild-refuses, rebuild-breaks, rebuild-letters, rebuild-matches, rebuild-least}
+use Rattle.corridor.proofs.rebuild.Statement.{statement}
+use Rattle.corridor.proofs.rebuild.Tie as tie
+
+lent-requires : tie.Need-lent-requires
+lent-requires c κs = search needs
+
+returns : tie.Need-returns
+returns c = search (needs, rebuild-refuses)
+
+judge-requires : tie.Need-judge-requires
+judge-requires c κs = search needs
+
+returns-2 : tie.Need-returns-2
+returns-2 c = search (needs, rebuild-breaks)
+
+rebuild-requires : tie.Need-rebuild-requires
+rebuild-requires c κs = (search (needs, rebuild-letters), search (needs, rebuild-matches), search (needs, verdict-done))
+
+same-length : tie.Need-same-length
+same-length c = search needs
+
+returns-3 : tie.Need-returns-3
+returns-3 c = search (needs, rebuild-least)
+
+pub rebuild-spec : {M : Type 1} → statement M
+rebuild-spec =
+    tie.close
+    (tie.spec
+    lent-requires
+    returns
+    judge-requires
+    returns-2
+    rebuild-requires
+    same-length
+    returns-3)
