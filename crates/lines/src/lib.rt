@@ -19,6 +19,9 @@ const DIGITS: u8 = 2;
 
 const NO_NUMBER: u8 = 3;
 
+// More tabs are not counted: two are too many already.
+const MANY: u8 = 2;
+
 pub struct Figures {
     pub digits: u8,
     pub tens: u8,
@@ -76,7 +79,7 @@ fn store(row: &mut [u8; KEPT], n: usize, b: u8) -> usize
     n
 }
 
-// The tabs with one more byte; no more than two are counted.
+// The tabs with one more byte.
 fn count_tab(tabs: u8, b: u8) -> u8
     ensures { λ r. ⌜ Counts b tabs r ⌝ }
 {
@@ -85,7 +88,7 @@ fn count_tab(tabs: u8, b: u8) -> u8
     } else if tabs == 0 {
         1
     } else {
-        2
+        MANY
     }
 }
 
