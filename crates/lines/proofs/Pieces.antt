@@ -7,11 +7,11 @@ use native.Mathlib.Omega.{arith}
 use native.Mathlib.Numerals.{add-one}
 use lib.Dec.{ltb}
 use lib.ListN.{length, getD, set, take, length-append, length-set}
-use lib.Seq.{take-all, take-append-le, take-suc, take-suc-set}
+use lib.Seq.{take-nil, take-all, take-append-le, take-suc, take-suc-set}
 use borrow.Author.Tests.{ltb-true, ltb-false, lt-ltb, le-ltb}
 use Rattle.words.specs.Numbers.{DONE, ALPHABET}
 use Rattle.lines.specs.Line.{TAB, END, until, past, count, lineOf, digit, numeral, value, meaning}
-use Rattle.lines.specs.Taking.{most, figures, Shown, Stored, Taken, Starts, Counts, Grows, Stores, Takes, Means, Tells}
+use Rattle.lines.specs.Taking.{figures, Shown, Stored, Taken, Starts, Counts, Grows, Stores, Takes, Means, Tells}
 use Rattle.lines.specs.declared.Figures.{Figures}
 use Rattle.lines.specs.declared.State.{State}
 use Rattle.lines.proofs.Lines.{count-more, count-one, count-other, until-met, until-here, until-snoc, past-met, past-open, value-snoc, figures-nil, figures-digit, figures-many, figures-other, numeral-yes, numeral-out, meaning-good, meaning-tabs, meaning-field}
@@ -45,26 +45,25 @@ module _ (b : ℕ) (f : Figures) where
   grows-many h = no-number (λ l s. figures-many l b (omega (arith, s .digits)))
 
 -- one card of the row
-pub stores-room : (b n : ℕ) (buf : List ℕ) → n < most → Stores b n buf (n + 1) (set buf n b)
+pub stores-room : (b n : ℕ) (buf : List ℕ) → n < length buf → Stores b n buf (n + 1) (set buf n b)
 stores-room b n buf h = record { more = λ x s. stored x s }
   where
     stored : (x : List ℕ) → Stored x n buf → Stored (x ++ (b ∷ [])) (n + 1) (set buf n b)
     stored x s =
         let l = length-append x (b ∷ []) in
+        let w = length-set buf n b in
         let c = s .count in
-        let p : take (n + 1) (set buf n b) ≡ take n buf ++ (b ∷ []) = rw (add-one n) (take-suc-set buf n b (omega (arith, s .wide))) in
+        let p : take (n + 1) (set buf n b) ≡ take n buf ++ (b ∷ []) = rw (add-one n) (take-suc-set buf n b h) in
         record {
-          wide = length-set buf n b ∙ s .wide;
           count = omega arith;
-          same = p ∙ ap (λ (k : List ℕ). k ++ (b ∷ [])) (s .same ∙ take-all most x (omega arith)) ∙ sym (take-all most (x ++ (b ∷ [])) (omega arith));
+          same = p ∙ ap (λ (k : List ℕ). k ++ (b ∷ [])) (s .same ∙ take-all (length buf) x (omega arith)) ∙ sym (take-all (length (set buf n b)) (x ++ (b ∷ [])) (omega arith));
         }
 
-pub stores-full : (b n : ℕ) (buf : List ℕ) → most ≤ n → Stores b n buf n buf
+pub stores-full : (b n : ℕ) (buf : List ℕ) → length buf ≤ n → Stores b n buf n buf
 stores-full b n buf h = record {
   more = λ x s. let l = length-append x (b ∷ []) in let c = s .count in record {
-    wide = s .wide;
     count = omega arith;
-    same = s .same ∙ sym (take-append-le most x (b ∷ []) (omega arith));
+    same = s .same ∙ sym (take-append-le (length buf) x (b ∷ []) (omega arith));
   };
 }
 
@@ -150,14 +149,17 @@ module _ (b : ℕ) (s : State) (buf : List ℕ) where
             still
 
 -- before the first byte
+none-stored : (buf : List ℕ) → Stored [] 0 buf
+none-stored buf = record { count = omega arith; same = sym (take-nil (length buf)) }
+
 pub starts-none : Starts (record { ended = false; tabs = 0; field = record { digits = 0; tens = 0; ones = 0 }; length = 0 })
 unfolding lineOf until past count value
 starts-none = record {
-  none = λ buf w. record {
+  none = λ buf. record {
     ended = refl;
     tabs = refl;
     field = record { digits = sym figures-nil; whole = λ k. refl; short = λ k. refl; empty = λ k. refl };
-    row = record { wide = w; count = refl; same = refl };
+    row = none-stored buf;
   };
 }
 
@@ -203,7 +205,7 @@ module _ (s : State) where
         record {
           number = rw m;
           a = rw m;
-          row = subst (λ (w : ℕ × ℕ × List ℕ). Stored (w .2) 0 buf) (sym m) (record { wide = h .row .wide; count = refl; same = refl });
+          row = subst (λ (w : ℕ × ℕ × List ℕ). Stored (w .2) 0 buf) (sym m) (none-stored buf);
         };
   }
 

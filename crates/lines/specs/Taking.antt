@@ -11,10 +11,6 @@ use Rattle.lines.specs.declared.Figures.{Figures}
 use Rattle.lines.specs.declared.State.{State}
 use Rattle.lines.specs.declared.Line.{Line}
 
--- of a row so many cards are kept: one more than the limit, so that a longer row is refused as it would be whole
-abbrev pub most : ℕ
-most = 4097
-
 -- how many digits a field has; 3 where it has another byte or more than two
 unfoldable pub figures : List ℕ → ℕ
 figures l = cond (every digit l) (min 3 (length l)) 3
@@ -26,11 +22,10 @@ pub record Shown (l : List ℕ) (f : Figures) : Type 0 where
   pub short : f .digits < 2 → f .tens ≡ 0
   pub empty : f .digits < 1 → f .ones ≡ 0
 
--- the first n bytes of the buffer are the kept cards of the row x
+-- the buffer holds the first n cards of the row x: all, or as many as it has room for
 pub record Stored (x : List ℕ) (n : ℕ) (buf : List ℕ) : Type 0 where
-  pub wide : length buf ≡ most
-  pub count : n ≡ min most (length x)
-  pub same : take n buf ≡ take most x
+  pub count : n ≡ min (length buf) (length x)
+  pub same : take n buf ≡ take (length buf) x
 
 -- s and the buffer are the state behind the input
 pub record Taken (input : List ℕ) (s : State) (buf : List ℕ) : Type 0 where
@@ -54,9 +49,9 @@ pub record Takes (piece : List ℕ) (s : State) (old : List ℕ) (r : State) (ne
 
 -- r is the state before the first byte, whatever the buffer holds
 pub record Starts (r : State) : Type 0 where
-  pub none : (buf : List ℕ) → length buf ≡ most → Taken [] r buf
+  pub none : (buf : List ℕ) → Taken [] r buf
 
--- l is what the input means: number and A, and of the row the kept cards
+-- l is what the input means: number and A, and how many cards of the row the buffer holds
 pub record Means (input : List ℕ) (l : Line) (buf : List ℕ) : Type 0 where
   pub number : l .number ≡ meaning (lineOf input) .0
   pub a : l .a ≡ meaning (lineOf input) .1

@@ -1,4 +1,5 @@
-// The line that the sheet program reads, taken in pieces of any size and of any length in all.
+// The line that the sheet program reads, taken in pieces of any size and of any length in all. Of the row as many cards are kept as the lent buffer has
+// room for.
 use words::ALPHABET;
 use words::DONE;
 ghost use mathlib.Core.Path.{_≡_};
@@ -6,9 +7,6 @@ ghost use mathlib.Core.List.{[], _∷_};
 ghost use Prim.Native.Nat.{_<_};
 ghost use Rattle.lines.specs.Line.{digit};
 ghost use Rattle.lines.specs.Taking.{Starts, Counts, Grows, Stores, Takes, Tells};
-
-// How many cards of a row are kept: one more than the limit, so that a longer row is refused as it would be whole.
-pub const KEPT: usize = words::LIMIT + 1;
 
 const TAB: u8 = 9;
 
@@ -35,7 +33,7 @@ pub struct State {
     pub length: usize,
 }
 
-// What the line means: 0, A and how many cards of the row are kept; or 1.
+// What the line means: 0, A and how many cards of the row the buffer holds; or 1.
 pub struct Line {
     pub number: u8,
     pub a: usize,
@@ -68,11 +66,11 @@ fn figure(f: Figures, b: u8) -> Figures
     }
 }
 
-// One more card of the row, of which n are kept.
-fn store(row: &mut [u8; KEPT], n: usize, b: u8) -> usize
+// One more card of the row, of which n are kept, and no more than the buffer has room for.
+fn store(row: &mut [u8], n: usize, b: u8) -> usize
     ensures { λ r. ⌜ Stores b n (now (row .entry)) r (now (row .exit)) ⌝ }
 {
-    if n < KEPT {
+    if n < row.len() {
         row[n] = b;
         return n + 1;
     }
@@ -92,7 +90,7 @@ fn count_tab(tabs: u8, b: u8) -> u8
     }
 }
 
-fn step(s: State, row: &mut [u8; KEPT], b: u8) -> State
+fn step(s: State, row: &mut [u8], b: u8) -> State
     ensures { λ r. ⌜ Takes (b ∷ []) s (now (row .entry)) r (now (row .exit)) ⌝ }
 {
     let f = s.field;
@@ -151,7 +149,7 @@ pub fn start() -> State
 }
 
 // The state behind one piece more; what stands behind byte 10 changes nothing.
-pub fn taken(s: State, row: &mut [u8; KEPT], piece: &[u8]) -> State
+pub fn taken(s: State, row: &mut [u8], piece: &[u8]) -> State
     ensures { λ r. ⌜ Takes (now (piece .entry)) s (now (row .entry)) r (now (row .exit)) ⌝ }
 {
     let mut t = s;

@@ -16,6 +16,9 @@ count-tab-requires c κs = search needs
 store-requires : tie.Need-store-requires
 store-requires c κs = search needs
 
+same-length : tie.Need-same-length
+same-length c = search needs
+
 returns-3 : tie.Need-returns-3
 returns-3 c = search (needs, takes-row)
 
@@ -36,6 +39,7 @@ step-spec =
     returns-2
     count-tab-requires
     store-requires
+    same-length
     returns-3
     returns-4
     figure-requires

@@ -1,5 +1,6 @@
 -- `lines::taken`. Assumes nothing.
 use borrow.Author.Needs.{needs}
+use mathlib.Core.Path.{_≡_}
 use Prim.Native.Nat.{_-_, _≤_}
 use lib.ListN.{length, take}
 use Rattle.lines.specs.Taking.{Takes}
@@ -8,7 +9,7 @@ use Rattle.lines.proofs.taken.Statement.{statement}
 use Rattle.lines.proofs.taken.Tie as tie
 
 abbrev Inv-loop : tie.InvT-loop
-Inv-loop row₀ piece t₀ i₀ row t i = (i ≤ length piece) × Takes (take i piece) t₀ row₀ t row
+Inv-loop row₀ piece t₀ i₀ row t i = (i ≤ length piece) × (length row ≡ length row₀) × Takes (take i piece) t₀ row₀ t row
 
 abbrev μ-loop : tie.MeasureT-loop
 μ-loop row₀ piece t₀ i₀ row t i = length piece - i
@@ -31,6 +32,9 @@ loop-less c = search needs
 loop-again : tie.Need-loop-again Inv-loop μ-loop
 loop-again c = search (needs, takes-more)
 
+same-length : tie.Need-same-length Inv-loop μ-loop
+same-length c = search needs
+
 returns : tie.Need-returns Inv-loop μ-loop
 returns c = search (needs, takes-all)
 
@@ -46,4 +50,5 @@ taken-spec =
     add-i
     loop-less
     loop-again
+    same-length
     returns)

@@ -1,16 +1,15 @@
+-- `sheet::read_line`. Assumes nothing.
 use borrow.Author.Needs.{needs}
+use lib.ListN.{length}
+use mathlib.Core.Path.{_≡_}
 use Rattle.sheet.proofs.read_line.Statement.{statement}
 use Rattle.sheet.proofs.read_line.Tie as tie
-use Rattle.sheet.proofs.read_line.Reads as reads
-use Rattle.sheet.proofs.read_line.Lts as lts
-use Rattle.lines.proofs.start.Reads as start-reads
-use Rattle.sheet.proofs.read_some.Reads as read-some-reads
 
 abbrev Inv-loop : tie.InvT-loop
-Inv-loop row₀ s₀ turns₀ row s turns = ?
+Inv-loop row₀ s₀ turns₀ row s turns = length row ≡ length row₀
 
 abbrev μ-loop : tie.MeasureT-loop
-μ-loop row₀ s₀ turns₀ row s turns = ?
+μ-loop row₀ s₀ turns₀ row s turns = turns
 
 start-requires : tie.Need-start-requires Inv-loop μ-loop
 start-requires c κs = search needs
@@ -30,8 +29,14 @@ loop-less c = search needs
 loop-again : tie.Need-loop-again Inv-loop μ-loop
 loop-again c = search needs
 
+same-length : tie.Need-same-length Inv-loop μ-loop
+same-length c = search needs
+
 returns : tie.Need-returns Inv-loop μ-loop
 returns c = search needs
+
+same-length-2 : tie.Need-same-length-2 Inv-loop μ-loop
+same-length-2 c = search needs
 
 returns-2 : tie.Need-returns-2 Inv-loop μ-loop
 returns-2 c = search needs
@@ -48,5 +53,7 @@ read-line-spec =
     sub-turns
     loop-less
     loop-again
+    same-length
     returns
+    same-length-2
     returns-2)
