@@ -12,7 +12,7 @@ use Rattle.words.specs.Rows.{Small, Alike}
 use Rattle.words.specs.Stand.{possible, hidden, opens, weight, weighed}
 use Rattle.words.proofs.Rows.{chain-alike, alike-at, alike-part, small-alike}
 use Rattle.arrays.specs.Steps.{Passes}
-use Rattle.arrays.proofs.Members.{any-same, keep-same}
+use Rattle.words.proofs.Lists.{any-same, keep-same}
 use Rattle.arrays.proofs.Rules.{possible-zero, possible-suc, possible-range, passes-sound, passes-part, sound-small}
 
 module _ {E F : ℕ → ℕ} {n : ℕ} (alike : Alike E F n) (small : Small E n) where

@@ -11,11 +11,10 @@ use Rattle.words.specs.Lists.{both, each}
 use Rattle.words.specs.Rows.{Small, echo, Alike}
 use Rattle.words.specs.Numbers.{DONE, firstLetter}
 use Rattle.words.specs.Stand.{possible, hidden, opens, weight, weighed}
-use Rattle.words.proofs.Lists.{which, either, same?, not-both, both-true, both-out, In, here, there, In-cons, In-each-out, any-in, any-out}
+use Rattle.words.proofs.Lists.{which, either, same?, not-both, both-true, both-out, In, here, there, In-cons, In-each-out, any-in, any-out, zero-or-more, Falls, keep-falls, each-long}
 use Rattle.rows.specs.Border.{Border}
 use Rattle.rows.proofs.Borders.{echo-border, echo-most, border-step, border-chain}
 use Rattle.arrays.specs.Steps.{Passes, Inside, Step, Echoing}
-use Rattle.arrays.proofs.Members.{zero-or-more, Falling, keep-falling, each-long}
 use Rattle.arrays.proofs.Pigeon.{Distinct, fits}
 use Rattle.arrays.proofs.Rules.{open-in, open-out, small-at, possible-in, possible-out, possible-suc, possible-range, possible-part, possible-below, possible-falling, small-more, weight-open, weighed-first, weighed-more, weighed-fits}
 use Rattle.arrays.proofs.Alike.{behind-alike}
@@ -92,8 +91,8 @@ echoing-unique {X} {E} {F} (suc n) p q =
           (λ d. a .same i (omega arith));
     }
 
-each-distinct : (X : ℕ → ℕ) (l : List ℕ) → Falling l → ((m k : ℕ) → In m l → In k l → m < k → X m ≡ X k → ⊥) → Distinct (each X l)
-unfolding Falling Distinct each
+each-distinct : (X : ℕ → ℕ) (l : List ℕ) → Falls l → ((m k : ℕ) → In m l → In k l → m < k → X m ≡ X k → ⊥) → Distinct (each X l)
+unfolding Falls Distinct each
 each-distinct X [] f d = tt
 each-distinct X (x ∷ l) f d = (
   (λ i. let (m, j, e) = In-each-out X l (X x) i in d m x (there j) here (f .0 m j) e),
@@ -160,7 +159,7 @@ module _ {X E : ℕ → ℕ} {n : ℕ} (has : Echoing X E n) where
   -- the open places have different cards
   open-distinct : (b : ℕ) → b < n → Distinct (each X (opens E b))
   unfolding opens
-  open-distinct b h = each-distinct X (opens E b) (keep-falling _ _ (possible-falling small b (omega arith)))
+  open-distinct b h = each-distinct X (opens E b) (keep-falls _ _ (possible-falling small b (omega arith)))
       (λ m k i j l e. let (p, u) = open-out E b m i in let (q, v) = open-out E b k j in not-both (twin-hidden b m k h p q l e) u)
 
   -- a place that a row over A has, passes. Zero: the place's own card is one more letter than those of the open places

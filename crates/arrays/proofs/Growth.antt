@@ -9,10 +9,9 @@ use Rattle.words.specs.Lists.{each}
 use Rattle.words.specs.Numbers.{DONE, firstLetter}
 use Rattle.words.specs.Stand.{possible, opens, weighed}
 use Rattle.words.specs.Least.{leastNot, freeLetter, nextCard}
-use Rattle.words.proofs.Lists.{which, either, same?, not-both, In, In-each, In-each-out}
+use Rattle.words.proofs.Lists.{which, either, same?, not-both, In, In-each, In-each-out, zero-or-more, each-long}
 use Rattle.arrays.specs.Steps.{Inside, Step, Echoing}
 use Rattle.words.specs.Rows.{Alike}
-use Rattle.arrays.proofs.Members.{zero-or-more, each-long}
 use Rattle.arrays.proofs.Pigeon.{free, free-from, free-least, free-none, free-tried}
 use Rattle.arrays.proofs.Rules.{possible-range, weight-done, weighed-done, weighed-more, weighed-room}
 use Rattle.words.proofs.Rows.{alike-at, alike-refl}

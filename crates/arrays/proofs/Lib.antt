@@ -1,4 +1,3 @@
-pub mod Members
 pub mod Rules
 pub mod Walks
 pub mod Judging

@@ -11,8 +11,7 @@ use borrow.Author.Tests.{eqb-true, eqb-false, eq-eqb, ne-eqb, not-true}
 use Rattle.words.specs.Lists.{any, keep}
 use Rattle.words.specs.Numbers.{firstLetter}
 use Rattle.words.specs.Least.{leastNot, freeLetter}
-use Rattle.words.proofs.Lists.{which, either, same?, not-both, In, here, there, any-in, any-out, keep-yes, keep-no, keep-in, keep-out}
-use Rattle.arrays.proofs.Members.{in?}
+use Rattle.words.proofs.Lists.{which, either, same?, not-both, In, here, there, any-in, any-out, keep-yes, keep-no, keep-in, keep-out, in?}
 
 -- no member stands twice
 unfoldable pub Distinct : List ℕ → Type 0

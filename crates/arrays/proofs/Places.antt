@@ -14,10 +14,9 @@ use Rattle.words.specs.Rows.{card, echo, echoes, Alike}
 use Rattle.words.specs.Numbers.{DONE, firstLetter, letter, over}
 use Rattle.words.specs.Stand.{weighed, numberAt, fails, firstBad, verdict}
 use Rattle.words.specs.Least.{before}
-use Rattle.words.proofs.Lists.{either, both-out, every-in, every-out, each-place, each-only, places-length, places-in, places-out}
+use Rattle.words.proofs.Lists.{either, both-out, every-in, every-out, each-place, each-only, places-length, places-in, places-out, first-places}
 use Rattle.words.proofs.Checks.{letter-in}
 use Rattle.arrays.specs.Steps.{Passes, Inside, UpTo, equals, lower, Bad}
-use Rattle.arrays.proofs.Members.{first-places}
 use Rattle.arrays.proofs.Cards.{inside-at}
 
 -- the cards of a row with one card behind it, and of a part of a row

@@ -8,9 +8,8 @@ use lib.ListN.{length}
 use borrow.Author.Tests.{ltb-true, ltb-false}
 use Rattle.words.specs.Numbers.{DONE, IMPOSSIBLE, HIDDEN, FULL}
 use Rattle.words.specs.Stand.{possible, hidden, opens, weight, weighed}
-use Rattle.words.proofs.Lists.{which, either, In}
+use Rattle.words.proofs.Lists.{which, either, In, zero-or-more, in?}
 use Rattle.arrays.specs.Steps.{Passes, Possible, Reason, first, room, shows, impossible, hides, full}
-use Rattle.arrays.proofs.Members.{zero-or-more, in?}
 use Rattle.arrays.proofs.Rules.{possible-above, open-in, open-out, small-at, sound-small, passes-sound, opens-at-most, weight-open, weight-hidden, weight-not, weighed-first, weighed-second, weighed-more, weighed-fits, weighed-full}
 
 above : (E : ℕ → ℕ) (n m : ℕ) → 0 < m → Possible E n m → (0 < n) × In m (possible E (E n))

@@ -12,10 +12,9 @@ use Rattle.words.specs.Lists.{each, any, keep}
 use Rattle.words.specs.Rows.{chain, Small}
 use Rattle.words.specs.Numbers.{DONE, IMPOSSIBLE, HIDDEN, FULL}
 use Rattle.words.specs.Stand.{possible, hidden, opens, weight, weighed}
-use Rattle.words.proofs.Lists.{which, either, both-true, both-left, both-right, In, here, there, In-nil, In-cons, In-each, In-each-out, any-in, any-none, keep-in, keep-out}
+use Rattle.words.proofs.Lists.{which, either, both-true, both-left, both-right, In, here, there, In-nil, In-cons, In-each, In-each-out, any-in, any-none, keep-in, keep-out, zero-or-more, in?, Falls, keep-same, keep-less}
 use Rattle.words.proofs.Rows.{down-ind, chain-zero, chain-suc}
 use Rattle.arrays.specs.Steps.{Passes, Sound}
-use Rattle.arrays.proofs.Members.{zero-or-more, in?, Falling, keep-same, keep-less}
 
 -- c + 1 is possible exactly for the c on the chain
 pub possible-in : (E : ℕ → ℕ) (b c : ℕ) → In c (chain E b) → In (suc c) (possible E b)
@@ -53,9 +52,9 @@ module _ {E : ℕ → ℕ} {n : ℕ} (small : Small E n) where
   pub possible-top : (b : ℕ) → b ≤ n → In (suc b) (possible E b)
   possible-top = down-ind small (λ b. In (suc b) (possible E b)) (rw (possible-zero E) here) (λ b h rest. rw (possible-suc b h) here)
 
-  pub possible-falling : (b : ℕ) → b ≤ n → Falling (possible E b)
-  unfolding Falling
-  possible-falling = down-ind small (λ b. Falling (possible E b))
+  pub possible-falling : (b : ℕ) → b ≤ n → Falls (possible E b)
+  unfolding Falls
+  possible-falling = down-ind small (λ b. Falls (possible E b))
       (rw (possible-zero E) ((λ m i. absurd (In-nil i)), tt))
       (λ b h rest. let l = small .below b h in rw (possible-suc b h) ((λ m i. omega (arith, possible-range (E (suc b)) (omega arith) m i)), rest))
 

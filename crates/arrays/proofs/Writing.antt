@@ -16,7 +16,7 @@ use Rattle.words.specs.Stand.{possible, verdict}
 use Rattle.words.specs.Least.{leastNot, freeLetter, nextCard, rebuilt}
 use Rattle.words.proofs.Rows.{small-less, alike-at, alike-refl, alike-sym}
 use Rattle.arrays.specs.Steps.{Passes, Sound, Echoing}
-use Rattle.arrays.proofs.Members.{each-same}
+use Rattle.words.proofs.Lists.{each-same}
 use Rattle.arrays.proofs.Rules.{small-at, sound-small, sound-part, passes-sound, passes-part, possible-zero, possible-suc, possible-range, weighed-room}
 use Rattle.arrays.proofs.Cards.{echoing-alike}
 use Rattle.arrays.proofs.Growth.{fresh-tried, next-zero, next-more}

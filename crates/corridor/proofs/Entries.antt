@@ -9,7 +9,7 @@ use lib.ListN.{length, take, drop, length-drop}
 use lib.Seq.{take-all, length-take-le}
 use borrow.Author.Tests.{le-leb, lt-leb, ne-eqb}
 use Rattle.words.specs.Lists.{both, at}
-use Rattle.words.specs.Rows.{card, echo, echoes, reach, reaches, Small}
+use Rattle.words.specs.Rows.{card, echo, echoes, reach, reaches}
 use Rattle.words.specs.Numbers.{DONE, ROOM, DIFFERS, differing, named, letters, limit, long, matching, cards, unless, refusal, sizes, lent, rowed, paired}
 use Rattle.words.specs.Stand.{verdict}
 use Rattle.words.specs.Least.{LeastRow, rebuilt}
@@ -18,9 +18,8 @@ use Rattle.words.specs.Outcomes.{given, kept, sheet-outcome, guess-outcome, Reb
 use Rattle.words.specs.Strips.{closed, closing, overlap, joint, joining}
 use Rattle.words.proofs.Lists.{places-length, both-true, both-left, both-right, both-out, which, either}
 use Rattle.words.proofs.Checks.{refusal-stop, refusal-last, refusal-clear, long-clear, matching-clear, sizes-clear, lent-clear}
-use Rattle.words.proofs.Rows.{small-alike, alike-sym}
-use Rattle.rows.proofs.Borders.{echo-zero, echo-small}
-use Rattle.rows.proofs.Walks.{echoes-known, echoes-long}
+use Rattle.rows.proofs.Borders.{echo-zero}
+use Rattle.rows.proofs.Walks.{echoes-long}
 use Rattle.arrays.proofs.Places.{verdict-done}
 use Rattle.arrays.proofs.Theorem.{stands-verdict, verdict-stands, rebuilt-least}
 use Rattle.sheets.specs.Writing.{written}
@@ -121,9 +120,6 @@ module _ (A : ℕ) (e old : List ℕ) (n p : ℕ) (checked : (n, p) ≡ lent A (
           rebuilds clear (subst (λ (x : List ℕ). LeastRow A e x) (sym h) (rebuilt-least a (verdict-stands a e (verdict-done A e w q judged z)))) refl
 
 -- the tables of a sheet
-pub table-small : (x e : List ℕ) → e ≡ echoes x → Small (at e) (length e)
-table-small x e q = subst (λ (n : ℕ). Small (at e) n) (sym (ap length q ∙ echoes-long x)) (small-alike (alike-sym (echoes-known x e q .right)) (echo-small (card x) (length x)))
-
 pub table-long : (x e : List ℕ) → e ≡ echoes x → length x ≤ limit → length e ≤ limit
 table-long x e q h = omega (arith, ap length q, echoes-long x)
 

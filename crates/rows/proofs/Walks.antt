@@ -10,7 +10,7 @@ use Rattle.words.specs.Lists.{at, each, places, placed}
 use Rattle.words.specs.Rows.{card, Small, Alike, echo, echoes, looksFrom, looksAt, looksTo, looks}
 use Rattle.words.specs.Strips.{overlap}
 use Rattle.words.proofs.Lists.{either, same?, each-place, each-only, places-length, placed-long, placed-same, placed-other}
-use Rattle.words.proofs.Rows.{looks-zero}
+use Rattle.words.proofs.Rows.{looks-zero, small-alike, alike-sym}
 use Rattle.rows.specs.Border.{Known, grown, Filling, Adding, Overlapping, resumed}
 use Rattle.rows.proofs.Borders.{echo-below, echo-one, echo-small}
 use Rattle.rows.proofs.Growing.{grown-here, grown-end, grown-on, echo-next, overlap-closes, overlap-on, overlap-full}
@@ -87,6 +87,9 @@ echoes-known x e q = record {
   long = omega (arith, ap length q, echoes-long x);
   right = record { same = λ i h. ap (λ (l : List ℕ). at l (suc i)) q ∙ echoes-at x i h };
 }
+
+pub echoes-small : (x e : List ℕ) → e ≡ echoes x → Small (at e) (length e)
+echoes-small x e q = subst (λ (n : ℕ). Small (at e) n) (sym (ap length q ∙ echoes-long x)) (small-alike (alike-sym (echoes-known x e q .right)) (echo-small (card x) (length x)))
 
 -- the loop that fills a table
 pub fill-start : (x e f : List ℕ) → length e ≡ length x → (length x ≡ 0 → ⊥) → f ≡ placed e 1 0 → Filling x f 0 1

@@ -1,18 +1,22 @@
 -- At the limit a sheet needs less than 61,500 bytes. Assumes nothing.
-use mathlib.Core.Path.{_≡_, refl, ap}
+use mathlib.Core.Path.{_≡_, refl, sym, ap, subst}
 use mathlib.Core.List.{List, [], _∷_}
-use Prim.Native.Nat.{ℕ, suc, _+_, _-_, _*_, _≤_, _<_}
+use Prim.Native.Nat.{ℕ, zero, suc, _+_, _-_, _*_, _≤_, _<_}
 use native.Mathlib.Omega.{arith}
 use lib.Dec.{ltb}
 use lib.ListN.{length, getD, length-append}
-use Rattle.words.specs.Lists.{at, keep}
-use Rattle.words.specs.Rows.{Small, chain}
+use Rattle.words.specs.Lists.{at, keep, places}
+use Rattle.words.specs.Rows.{card, Small, chain, reach, echoes, reaches, looks}
 use Rattle.words.specs.Numbers.{letters, limit}
-use Rattle.words.specs.Sheet.{Line, decimal, fields, line, text}
-use Rattle.words.proofs.Lists.{In, here, there, In-nil, In-cons, In-each-out, either}
+use Rattle.words.specs.Sheet.{Line, decimal, fields, line, text, sheet}
+use Rattle.words.proofs.Lists.{In, here, there, In-nil, In-cons, In-each-out, places-length, places-out, either}
 use Rattle.words.proofs.Rows.{down-ind}
 use Rattle.rows.specs.Reach.{periodsAlong, periodsOf}
 use Rattle.sheets.specs.Tables.{periodsLine, tableLines}
+use Rattle.rows.proofs.Looking.{looks-most}
+use Rattle.rows.proofs.Walks.{echoes-long, echoes-small}
+use Rattle.rows.proofs.Reaching.{reach-low}
+use Rattle.sheets.proofs.Outcome.{sheet-tables}
 use Rattle.sheets.proofs.Decimal.{decimal-width}
 use Rattle.sheets.proofs.Reading.{text-nil, text-cons}
 use Rattle.sheets.proofs.Periods.{periods-zero, periods-suc, last-low}
@@ -69,3 +73,16 @@ sheet-short n A k e r hn hA hk he s hr h = let z : length (text (tableLines n A 
         (text-short _ _ 20499 40985 (λ m i. omega (arith, h m i)) (omega arith)
         (text-short _ _ 11 20499 (λ m i. omega (arith, periods-low (at e) (length e) (at e (length e)) m i)) (omega (arith, last, periods-few s (length e) (at e (length e)) last))
         (text-short _ _ 0 11 (one-low k hk) (omega arith) (omega (arith, ap length text-nil))))))
+
+-- at the limit a sheet needs less than 61,500 bytes
+pub row-short : (A : ℕ) (x : List ℕ) → A ≤ letters → length x ≤ limit → length (sheet A x) < 61500
+unfolding reaches looks
+row-short A x a h = subst (λ (t : List ℕ). length t < 61500) (sym (sheet-tables A x))
+    (sheet-short (length x) A (looks x) (echoes x) (reaches x) h a (omega (arith, looks-most (card x) (length x))) (omega (arith, echoes-long x))
+    (echoes-small x (echoes x) refl)
+    (omega (arith, places-length (reach (card x) (length x)) (length x)))
+    (λ m i. let (k, j, e) = In-each-out (reach (card x) (length x)) (places (length x)) m i in low k m (places-out (length x) k j .0) e))
+  where
+    low : (k m : ℕ) → 0 < k → reach (card x) (length x) k ≡ m → m ≤ limit
+    low zero m p e = absurd (omega arith)
+    low (suc d) m p e = omega (arith, reach-low (card x) (length x) d)

@@ -65,24 +65,20 @@ line-read l k r q w e = fields-read (l .numbers) (k .numbers) r q (append-cancel
     same : (s : List ℕ) → s ≡ k .word → (s ++ fields (l .numbers)) ++ r ≡ (k .word ++ fields (k .numbers)) ++ q → k .word ++ (fields (l .numbers) ++ r) ≡ k .word ++ (fields (k .numbers) ++ q)
     same s w e = ap (λ (s : List ℕ). s ++ (fields (l .numbers) ++ r)) (sym w) ∙ sym (append-assoc s (fields (l .numbers)) r) ∙ e ∙ append-assoc (k .word) (fields (k .numbers)) q
 
--- lines with the same words and equal texts have equal numbers, line by line
-pub text-read : (l k : List Line) → each (λ (a : Line). a .word) l ≡ each (λ (a : Line). a .word) k → text l ≡ text k → each (λ (a : Line). a .numbers) l ≡ each (λ (a : Line). a .numbers) k
-unfolding each
-text-read [] [] w e = refl
-text-read [] (b ∷ k) w e = let z : _≡_ {A = ℕ} 0 1 = cc in absurd (omega arith)
-text-read (a ∷ l) [] w e = let z : _≡_ {A = ℕ} 0 1 = cc in absurd (omega arith)
-text-read (a ∷ l) (b ∷ k) w e =
+-- lines with the same words and equal texts, whatever stands behind them, have equal numbers, line by line
+pub text-read : (l k : List Line) (r q : List ℕ) → each (λ (a : Line). a .word) l ≡ each (λ (a : Line). a .word) k → text l ++ r ≡ text k ++ q
+    → (each (λ (a : Line). a .numbers) l ≡ each (λ (a : Line). a .numbers) k) × (r ≡ q)
+unfolding each text joined
+text-read [] [] r q w e = (refl, e)
+text-read [] (b ∷ k) r q w e = let z : _≡_ {A = ℕ} 0 1 = cc in absurd (omega arith)
+text-read (a ∷ l) [] r q w e = let z : _≡_ {A = ℕ} 0 1 = cc in absurd (omega arith)
+text-read (a ∷ l) (b ∷ k) r q w e =
     let z : a .word ≡ b .word = cc in
     let u : each (λ (a : Line). a .word) l ≡ each (λ (a : Line). a .word) k = cc in
-    let (p, o) = line-read a b (text l) (text k) z (sym (text-cons a l) ∙ e ∙ text-cons b k) in
-    let rest = text-read l k u o in cc
+    let (p, o) = line-read a b (text l ++ r) (text k ++ q) z (sym (append-assoc (line a) (text l) r) ∙ e ∙ append-assoc (line b) (text k) q) in
+    let (rest, behind) = text-read l k r q u o in (cc, behind)
 
--- equal texts are of equal tables
-pub tables-read : (n A k m B j : ℕ) (e r f q : List ℕ) → text (tableLines n A e r k) ≡ text (tableLines m B f q j) → (n ≡ m) × (A ≡ B) × (e ≡ f) × (r ≡ q) × (k ≡ j)
-unfolding tableLines periodsLine each
-tables-read n A k m B j e r f q h = let same = text-read (tableLines n A e r k) (tableLines m B f q j) refl h in (cc, cc, cc, cc, cc)
-
--- equal sheets are of rows of one length, over one A, with equal echoes
-pub sheet-read : (A B : ℕ) (x y : List ℕ) → sheet A x ≡ sheet B y → (length x ≡ length y) × (A ≡ B) × (echoes x ≡ echoes y)
+-- equal sheets, whatever stands behind them, are of rows of one length, over one A, with equal echoes
+pub sheet-read : (A B : ℕ) (x y r q : List ℕ) → sheet A x ++ r ≡ sheet B y ++ q → (length x ≡ length y) × (A ≡ B) × (echoes x ≡ echoes y)
 unfolding sheet lines each
-sheet-read A B x y h = let same = text-read (lines A x) (lines B y) refl h in (cc, cc, cc)
+sheet-read A B x y r q h = let (same, behind) = text-read (lines A x) (lines B y) r q refl h in (cc, cc, cc)

@@ -6,12 +6,12 @@ use Prim.Native.Nat.{ℕ, zero, suc, _+_, _-_, _≤_, _<_}
 use native.Mathlib.Omega.{arith}
 use lib.Dec.{ltb, leb, eqb}
 use lib.ListN.{length}
-use borrow.Author.Tests.{eq-eqb, ne-eqb, le-leb, lt-leb, lt-ltb, le-ltb, leb-true, eqb-true}
+use borrow.Author.Tests.{eq-eqb, ne-eqb, le-leb, lt-leb, lt-ltb, le-ltb, leb-true, eqb-true, not-true, not-false}
 use Rattle.words.specs.Lists.{both, firstOf, run, places, at}
 use Rattle.words.specs.Rows.{card}
 use Rattle.words.specs.Outcomes.{kept, given, answered, counted}
-use Rattle.words.specs.Numbers.{DONE, ALPHABET, LONG, MISMATCH, CARD, letters, firstLetter, letter, foreign, outside, differs, differing, named, unless, alphabet, long, matching, cards, refusal, sizes, lent, limit}
-use Rattle.words.proofs.Lists.{which, either, same?, both-out, both-true, both-left, both-right, first-start, first-here, first-more, first-none}
+use Rattle.words.specs.Numbers.{DONE, ALPHABET, LONG, MISMATCH, CARD, letters, firstLetter, letter, over, foreign, outside, differs, differing, named, unless, alphabet, long, matching, cards, refusal, sizes, lent, limit}
+use Rattle.words.proofs.Lists.{which, either, same?, not-both, every-in, every-out, places-in, places-out, first-places, both-out, both-true, both-left, both-right, first-start, first-here, first-more, first-none}
 
 pub alphabet-done : (A : ℕ) → (A ≡ 0 → ⊥) → A ≤ letters → (DONE, 0) ≡ alphabet A
 unfolding alphabet unless
@@ -166,3 +166,42 @@ module _ (e f : List ℕ) (i : ℕ) (left : differing e f ≡ firstOf (differs e
     pub differing-more : a ≡ b → differing e f ≡ firstOf (differs e f) (run (i + 1 + 1) (length e - (i + 1)))
     unfolding differs
     differing-more z = first-more (differs e f) (differing e f) i (length e) left (ap not (eq-eqb (at e (i + 1)) (at f (i + 1)) (sym here ∙ z ∙ there)))
+
+-- 4 is given exactly where a card is outside the alphabet, at its first place
+pub over-cards : (A : ℕ) (x : List ℕ) → over A x ≡ true → cards A x ≡ (DONE, 0)
+unfolding over cards outside foreign
+over-cards A x t = sym (named-none CARD (outside A x) (either (first-places (foreign A x) (length x))
+    (λ m. m .place)
+    (λ h. absurd (not-both (h .passes) (ap not (every-out (λ i. letter A (card x i)) t (places-in (length x) (suc (h .behind)) (omega arith) (omega (arith, h .within)))))))))
+
+pub cards-over : (A : ℕ) (x : List ℕ) → cards A x .0 ≡ DONE → over A x ≡ true
+unfolding over cards outside named foreign
+cards-over A x z = either (first-places (foreign A x) (length x))
+    (λ m. every-in (λ i. letter A (card x i)) (places (length x)) (λ i j.
+    let (p, q) = places-out (length x) i j in
+    not-false (letter A (card x i)) (fits i p q (m .none))))
+    (λ h. absurd (four (h .behind) (h .place)))
+  where
+    fits : (i : ℕ) → 0 < i → i ≤ length x → ((k : ℕ) → 0 ≤ k → k < 0 + length x → foreign A x (suc k) ≡ false) → not (letter A (card x i)) ≡ false
+    fits zero p q none = absurd (omega arith)
+    fits (suc k) p q none = none k (omega arith) (omega arith)
+
+    four : (k : ℕ) → firstOf (foreign A x) (places (length x)) ≡ suc k → ⊥
+    four k e = let w : CARD ≡ DONE = rw (ne-eqb (outside A x) 0 (λ y. omega arith)) at z in omega arith
+
+pub cards-first : (A : ℕ) (x : List ℕ) (p : ℕ) → cards A x ≡ (CARD, p) → (p ≤ length x) × (letter A (card x p) ≡ false) × ((i : ℕ) → 0 < i → i < p → letter A (card x i) ≡ true)
+unfolding cards outside named foreign
+cards-first A x p e = either (first-places (foreign A x) (length x))
+    (λ m. let w : DONE ≡ CARD = ap (λ (r : ℕ × ℕ). r .0) (rw (eq-eqb (outside A x) 0 (m .place)) at e) in absurd (omega arith))
+    (λ h.
+    let w : outside A x ≡ p = ap (λ (r : ℕ × ℕ). r .1) (rw (ne-eqb (outside A x) 0 (λ y. omega (arith, h .place))) at e) in
+    let z : suc (h .behind) ≡ p = omega (arith, h .place) in
+    (
+      omega (arith, h .within),
+      ap (λ (i : ℕ). letter A (card x i)) (sym z) ∙ not-true (letter A (card x (suc (h .behind)))) (h .passes),
+      λ i q l. good i q (omega arith) (h .none),
+    ))
+  where
+    good : {k : ℕ} (i : ℕ) → 0 < i → i ≤ k → ((j : ℕ) → 0 ≤ j → j < k → foreign A x (suc j) ≡ false) → letter A (card x i) ≡ true
+    good zero q l none = absurd (omega arith)
+    good (suc j) q l none = not-false (letter A (card x (suc j))) (none j (omega arith) l)

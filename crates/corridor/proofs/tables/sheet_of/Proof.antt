@@ -1,7 +1,8 @@
 -- `tables::sheet_of`. Assumes nothing.
 use borrow.Author.Needs.{needs}
 use Rattle.sheets.proofs.Outcome.{tables-written}
-use Rattle.corridor.proofs.Entries.{table-small, table-long, reach-long}
+use Rattle.corridor.proofs.Entries.{table-long, reach-long}
+use Rattle.rows.proofs.Walks.{echoes-small}
 use Rattle.corridor.proofs.tables.sheet_of.Statement.{statement}
 use Rattle.corridor.proofs.tables.sheet_of.Tie as tie
 
@@ -18,7 +19,7 @@ cast-write-3 : tie.Need-cast-write-3
 cast-write-3 c = search needs
 
 write-requires : tie.Need-write-requires
-write-requires c κs = (search (needs, table-small), search (needs, table-long), search (needs, reach-long))
+write-requires c κs = (search (needs, echoes-small), search (needs, table-long), search (needs, reach-long))
 
 same-length : tie.Need-same-length
 same-length c = search needs
