@@ -41,13 +41,11 @@ module _ (c : ℕ) where
   until-met [] m d = absurd (d refl)
   until-met (b ∷ l) m d = either (which (eqb b c)) (λ t. rw t) (λ f. rw f (ap (λ (k : List ℕ). b ∷ k) (until-met l m (λ z. d (count-no b l f ∙ z)))))
 
-  -- where none stands yet, a byte c closes what stands before it, and any other joins it
-  pub until-here : (l : List ℕ) (b : ℕ) → count c l ≡ 0 → b ≡ c → until c (l ++ (b ∷ [])) ≡ until c l
+  -- a byte c closes what stands before it, and where none stands yet any other joins it
+  pub until-here : (l : List ℕ) (b : ℕ) (m : List ℕ) → b ≡ c → until c (l ++ (b ∷ m)) ≡ until c l
   unfolding until
-  until-here [] b z e = rw (eq-eqb b c e)
-  until-here (x ∷ l) b z e = either (which (eqb x c))
-      (λ t. absurd (omega (arith, count-yes x l t)))
-      (λ f. rw f (ap (λ (k : List ℕ). x ∷ k) (until-here l b (sym (count-no x l f) ∙ z) e)))
+  until-here [] b m e = rw (eq-eqb b c e)
+  until-here (x ∷ l) b m e = either (which (eqb x c)) (λ t. rw t) (λ f. rw f (ap (λ (k : List ℕ). x ∷ k) (until-here l b m e)))
 
   pub until-snoc : (l : List ℕ) (b : ℕ) → count c l ≡ 0 → (b ≡ c → ⊥) → until c (l ++ (b ∷ [])) ≡ until c l ++ (b ∷ [])
   unfolding until
@@ -65,6 +63,11 @@ module _ (c : ℕ) where
   unfolding past
   past-open [] b z = either (which (eqb b c)) (λ t. rw t) (λ f. rw f)
   past-open (x ∷ l) b z = either (which (eqb x c)) (λ t. absurd (omega (arith, count-yes x l t))) (λ f. rw f (past-open l b (sym (count-no x l f) ∙ z)))
+
+-- the line ends at byte 10 as at the end of input, and what stands behind it is not read
+pub line-ends : (input rest : List ℕ) → lineOf (input ++ (END ∷ rest)) ≡ lineOf input
+unfolding lineOf
+line-ends input rest = until-here END input END rest refl
 
 pub every-snoc : (p : ℕ → Bool) (l : List ℕ) (b : ℕ) → every p (l ++ (b ∷ [])) ≡ both (every p l) (p b)
 unfolding every both

@@ -11,9 +11,10 @@ use lib.Seq.{take-nil, take-all, take-append-le, take-suc, take-suc-set}
 use borrow.Author.Tests.{ltb-true, ltb-false, lt-ltb, le-ltb}
 use Rattle.words.specs.Numbers.{DONE, ALPHABET}
 use Rattle.lines.specs.Line.{TAB, END, until, past, count, lineOf, digit, numeral, value, meaning}
-use Rattle.lines.specs.Taking.{figures, Shown, Stored, Taken, Starts, Counts, Grows, Stores, Takes, Means, Tells}
+use Rattle.lines.specs.Taking.{figures, Shown, Stored, Taken, Ready, Starts, Counts, Grows, Stores, Takes, Means, Tells}
 use Rattle.lines.specs.declared.Figures.{Figures}
 use Rattle.lines.specs.declared.State.{State}
+use Rattle.lines.specs.declared.Line.{Line}
 use Rattle.lines.proofs.Lines.{count-more, count-one, count-other, until-met, until-here, until-snoc, past-met, past-open, value-snoc, figures-nil, figures-digit, figures-many, figures-other, numeral-yes, numeral-out, meaning-good, meaning-tabs, meaning-field}
 
 -- one byte of the field
@@ -107,7 +108,7 @@ module _ (b : ℕ) (s : State) (buf : List ℕ) where
     unfolding lineOf
     takes-end e = record {
       more = λ input h.
-          held (input ++ (b ∷ [])) (lineOf input) _ buf (sym (until-here END input b (none input h) e))
+          held (input ++ (b ∷ [])) (lineOf input) _ buf (sym (until-here END input b [] e))
           (sym (lt-ltb 0 (count END (input ++ (b ∷ []))) (omega (arith, count-more END input (b ∷ []), count-one END b e))))
           (h .tabs) (h .field) (h .row);
     }
@@ -140,7 +141,7 @@ module _ (b : ℕ) (s : State) (buf : List ℕ) where
 
         pub takes-tab : b ≡ TAB → Takes (b ∷ []) s buf (record { ended = false; tabs = k; field = s .field; length = s .length }) buf
         takes-tab t = byte (s .field) (s .length) buf
-            (λ l e h. subst (λ (m : List ℕ). Shown m (s .field)) (sym (until-here TAB l b (omega arith) t)) h)
+            (λ l e h. subst (λ (m : List ℕ). Shown m (s .field)) (sym (until-here TAB l b [] t)) h)
             still
 
         pub takes-figure : (b ≡ TAB → ⊥) → (g : Figures) → Grows b (s .field) g → Takes (b ∷ []) s buf (record { ended = false; tabs = k; field = g; length = s .length }) buf
@@ -217,3 +218,13 @@ module _ (s : State) where
 
   pub tells-many : 2 < s .field .digits → Tells s (record { number = ALPHABET; a = 0; length = 0 })
   tells-many z = bad (λ input buf h. meaning-field (lineOf input) (λ t. omega (arith, h .field .digits, numeral-out (until TAB (lineOf input)) t)))
+
+-- for a caller that has taken some input
+pub ready-start : (s : State) (buf : List ℕ) → Starts s → Ready s buf
+ready-start s buf h = record { input = []; taken = h .none buf }
+
+pub ready-more : (piece : List ℕ) (s r : State) (old new : List ℕ) → Ready s old → Takes piece s old r new → Ready r new
+ready-more piece s r old new h t = record { input = h .input ++ piece; taken = t .more (h .input) (h .taken) }
+
+pub ready-within : (s : State) (l : Line) (buf : List ℕ) → Ready s buf → Tells s l → l .length ≤ length buf
+ready-within s l buf h t = omega (arith, t .means (h .input) buf (h .taken) .row .count)

@@ -34,6 +34,11 @@ pub record Taken (input : List ℕ) (s : State) (buf : List ℕ) : Type 0 where
   pub field : Shown (until TAB (lineOf input)) (s .field)
   pub row : Stored (past TAB (lineOf input)) (s .length) buf
 
+-- s and the buffer are the state behind some input
+pub record Ready (s : State) (buf : List ℕ) : Type 0 where
+  pub input : List ℕ
+  pub taken : Taken input s buf
+
 -- r is the state of each part one byte further, and of all a piece further
 pub record Counts (b tabs r : ℕ) : Type 0 where
   pub more : (m : ℕ) → tabs ≡ min 2 m → r ≡ min 2 (m + count TAB (b ∷ []))

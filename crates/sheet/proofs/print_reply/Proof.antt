@@ -1,42 +1,46 @@
 -- `sheet::print_reply`. Assumes nothing.
 use borrow.Author.Needs.{needs}
-use lib.Seq.{length-take-le}
+use Rattle.sheet.proofs.Kept.{answers-within, answers-part}
 use Rattle.sheet.proofs.print_reply.Statement.{statement}
 use Rattle.sheet.proofs.print_reply.Tie as tie
 
-meaning-requires : tie.Need-meaning-requires
-meaning-requires c κs = search needs
+reply-requires : tie.Need-reply-requires
+reply-requires c κs = search needs
 
 print-refusal-requires : tie.Need-print-refusal-requires
 print-refusal-requires c κs = search needs
 
-slice-aggregate-print-sheet : tie.Need-slice-aggregate-print-sheet
-slice-aggregate-print-sheet c = search (needs, length-take-le)
+slice-reshare-prefix-write-all : tie.Need-slice-reshare-prefix-write-all
+slice-reshare-prefix-write-all c = search (needs, answers-within)
 
-print-sheet-requires : tie.Need-print-sheet-requires
-print-sheet-requires c κs = search needs
+slice-aggregate-write-all : tie.Need-slice-aggregate-write-all
+slice-aggregate-write-all c = search (needs, answers-part)
 
-returns : tie.Need-returns
-returns c = search needs
+write-all-requires : tie.Need-write-all-requires
+write-all-requires c κs = search needs
 
 same-length : tie.Need-same-length
 same-length c = search needs
 
+returns : tie.Need-returns
+returns c = search needs
+
+same-length-2 : tie.Need-same-length-2
+same-length-2 c = search needs
+
 returns-2 : tie.Need-returns-2
 returns-2 c = search needs
-
-returns-3 : tie.Need-returns-3
-returns-3 c = search needs
 
 pub print-reply-spec : {M : Type 1} → statement M
 print-reply-spec =
     tie.close
     (tie.spec
-    meaning-requires
+    reply-requires
     print-refusal-requires
-    slice-aggregate-print-sheet
-    print-sheet-requires
-    returns
+    slice-reshare-prefix-write-all
+    slice-aggregate-write-all
+    write-all-requires
     same-length
-    returns-2
-    returns-3)
+    returns
+    same-length-2
+    returns-2)

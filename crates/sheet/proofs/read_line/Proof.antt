@@ -2,11 +2,13 @@
 use borrow.Author.Needs.{needs}
 use lib.ListN.{length}
 use mathlib.Core.Path.{_≡_}
+use Rattle.lines.specs.Taking.{Ready}
+use Rattle.lines.proofs.Pieces.{ready-start}
 use Rattle.sheet.proofs.read_line.Statement.{statement}
 use Rattle.sheet.proofs.read_line.Tie as tie
 
 abbrev Inv-loop : tie.InvT-loop
-Inv-loop row₀ s₀ turns₀ row s turns = length row ≡ length row₀
+Inv-loop row₀ s₀ turns₀ row s turns = (length row ≡ length row₀) × Ready s row
 
 abbrev μ-loop : tie.MeasureT-loop
 μ-loop row₀ s₀ turns₀ row s turns = turns
@@ -15,7 +17,7 @@ start-requires : tie.Need-start-requires Inv-loop μ-loop
 start-requires c κs = search needs
 
 loop-holds : tie.Need-loop-holds Inv-loop μ-loop
-loop-holds c = search needs
+loop-holds c = search (needs, ready-start)
 
 read-some-requires : tie.Need-read-some-requires Inv-loop μ-loop
 read-some-requires c κs = search needs
