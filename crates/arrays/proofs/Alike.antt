@@ -31,7 +31,7 @@ module _ {E F : ℕ → ℕ} {n : ℕ} (alike : Alike E F n) (small : Small E n)
       (λ k i. let r = possible-range small b (omega arith) k i in ap (λ (x : ℕ). both (ltb m k) (eqb x m)) (alike-at alike k (r .0) (omega arith)))
       ∙ ap (any (λ k. both (ltb m k) (eqb (F k) m))) (possible-alike b (omega arith))
 
-  opens-alike : (b : ℕ) → b < n → opens E b ≡ opens F b
+  pub opens-alike : (b : ℕ) → b < n → opens E b ≡ opens F b
   unfolding opens
   opens-alike b h =
       keep-same _ (λ m. not (hidden F b m)) (possible E b) (λ m i. ap not (hidden-alike b m h))

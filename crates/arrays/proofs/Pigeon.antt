@@ -19,7 +19,7 @@ Distinct [] = Unit
 Distinct (x ∷ l) = (In x l → ⊥) × Distinct l
 
 -- all but c
-abbrev but : ℕ → ℕ → Bool
+abbrev pub but : ℕ → ℕ → Bool
 but c x = not (eqb c x)
 
 keep-at-most : (p : ℕ → Bool) (l : List ℕ) → length (keep p l) ≤ length l
@@ -29,7 +29,7 @@ keep-at-most p (x ∷ l) = either (which (p x))
     (λ t. rw (keep-yes p x l t) (omega (arith, keep-at-most p l)))
     (λ f. rw (keep-no p x l f) (omega (arith, keep-at-most p l)))
 
-keep-shorter : (p : ℕ → Bool) {c : ℕ} {l : List ℕ} → In c l → p c ≡ false → length (keep p l) < length l
+pub keep-shorter : (p : ℕ → Bool) {c : ℕ} {l : List ℕ} → In c l → p c ≡ false → length (keep p l) < length l
 keep-shorter p (here {l}) h = rw (keep-no p _ l h) (omega (arith, keep-at-most p l))
 keep-shorter p (there {x} {l} i) h = either (which (p x))
     (λ t. rw (keep-yes p x l t) (omega (arith, keep-shorter p i h)))

@@ -41,7 +41,7 @@ fn weigh(e: &[u16], b: usize, m: usize) -> u8
 }
 
 // How many values are open where the echo of the place before is b. Along the chain the possible values with the echo 0 are as many.
-fn open_count(e: &[u16], b: usize) -> usize
+pub fn open_count(e: &[u16], b: usize) -> usize
     requires { do ⌜ (b < (← ⟦e.len()⟧)) × Sound (at (now e)) (suc b) ⌝ }
     ensures counted { λ r. ⌜ r ≡ length (opens (at (now (e .entry))) b) ⌝ }
     ensures few { λ r. ⌜ r ≤ b + 1 ⌝ }

@@ -40,3 +40,13 @@ pub fn list(l: &[u16]) {
         i += 1;
     }
 }
+
+// The bytes of a text; of one of over 100 the last three.
+pub fn text(t: &[u8]) {
+    if 100 < t.len() {
+        let from = t.len() - 3;
+        word(&t[from..]);
+    } else {
+        word(t);
+    }
+}

@@ -104,8 +104,7 @@ sheet-done : (A : ℕ) (x old new : List ℕ) (n p l : ℕ) → (n, p, l, new) �
     → (l ≡ length (sheet A x)) × (new ≡ sheet A x ++ drop (length (sheet A x)) old)
 unfolding sheet-outcome given kept
 sheet-done A x old new n p l e z =
-    let w : r .0 ≡ DONE = ap (λ (t : ℕ × ℕ × ℕ × List ℕ). t .0) (sym e) ∙ z in
-    (
+    let w : r .0 ≡ DONE = ap (λ (t : ℕ × ℕ × ℕ × List ℕ). t .0) (sym e) ∙ z in (
       ap (λ (t : ℕ × ℕ × ℕ × List ℕ). t .2) e ∙ rw (eq-eqb (r .0) DONE w),
       ap (λ (t : ℕ × ℕ × ℕ × List ℕ). t .3) e ∙ rw (eq-eqb (r .0) DONE w),
     )

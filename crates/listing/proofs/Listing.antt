@@ -104,7 +104,7 @@ module _ (f : ℕ → List (List ℕ)) where
   branches-length g [] h = refl
   branches-length g (m ∷ l) h = omega (arith, length-append (fronted m (f m)) (branches l), fronted-length m (f m), h m, branches-length g l h)
 
-more-append : (p : List ℕ) (m : ℕ) (c : List ℕ) → more p m ++ c ≡ p ++ (m ∷ c)
+pub more-append : (p : List ℕ) (m : ℕ) (c : List ℕ) → more p m ++ c ≡ p ++ (m ∷ c)
 unfolding more
 more-append p m c = append-snoc p m c
 

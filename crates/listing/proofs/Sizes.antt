@@ -18,7 +18,7 @@ unfolding keep
 keep-few p [] = omega arith
 keep-few p (x ∷ l) = either (which (p x)) (λ t. rw t (omega (arith, keep-few p l))) (λ f. rw f (omega (arith, keep-few p l)))
 
-run-length : (c n : ℕ) → length (run c n) ≡ n
+pub run-length : (c n : ℕ) → length (run c n) ≡ n
 unfolding run
 run-length c zero = refl
 run-length c (suc n) = ap suc (run-length (suc c) n)
@@ -66,6 +66,11 @@ module _ (ok : List ℕ → ℕ → Bool) where
   count-most (suc r) p = le-trans
       (sum-most (λ m. countFrom ok r (more p m)) (spans (suc (length p)) r) (values ok p) (λ m. rw (more-length p m) at (count-most r (more p m))))
       (mul-le-mul-right (spans (suc (length p)) r) (values-few p))
+
+  -- one place more has as many as there are values
+  pub count-last : (p : List ℕ) → countFrom ok 1 p ≡ length (values ok p)
+  unfolding countFrom
+  count-last p = sum-alike (λ m. countFrom ok 0 (more p m)) 1 (values ok p) (λ m i. refl) ∙ mul-one (length (values ok p))
 
   -- and so no count behind a prefix of an array of 20 places is above 20!
   pub count-fits : (r : ℕ) (p : List ℕ) → length p + r ≤ 20 → countFrom ok r p ≤ 2432902008176640000

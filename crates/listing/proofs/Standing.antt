@@ -10,13 +10,13 @@ use Rattle.listing.proofs.Order.{least-alike}
 use Rattle.listing.proofs.Walk.{head-least, behind-least, behind-none, walk}
 
 module _ (A : ℕ) where
-  at-sized : {n : ℕ} {f : List ℕ} → StandsAt A n f → Sized (Stands A) n f
+  pub at-sized : {n : ℕ} {f : List ℕ} → StandsAt A n f → Sized (Stands A) n f
   at-sized s = record { is = s .stands; long = s .long }
 
-  after-stands : {e f : List ℕ} → StandsAfter A e f → After (Stands A) e f
+  pub after-stands : {e f : List ℕ} → StandsAfter A e f → After (Stands A) e f
   after-stands s = record { is = s .stands; long = s .long; greater = s .greater }
 
-  stands-after : {e f : List ℕ} → After (Stands A) e f → StandsAfter A e f
+  pub stands-after : {e f : List ℕ} → After (Stands A) e f → StandsAfter A e f
   stands-after s = record { stands = s .is; long = s .long; greater = s .greater }
 
   pub first-least : (n : ℕ) (f : List ℕ) → First A n f → Least (Sized (Stands A) n) f

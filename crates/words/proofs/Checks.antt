@@ -195,8 +195,7 @@ cards-first A x p e = either (first-places (foreign A x) (length x))
     (λ m. let w : DONE ≡ CARD = ap (λ (r : ℕ × ℕ). r .0) (rw (eq-eqb (outside A x) 0 (m .place)) at e) in absurd (omega arith))
     (λ h.
     let w : outside A x ≡ p = ap (λ (r : ℕ × ℕ). r .1) (rw (ne-eqb (outside A x) 0 (λ y. omega (arith, h .place))) at e) in
-    let z : suc (h .behind) ≡ p = omega (arith, h .place) in
-    (
+    let z : suc (h .behind) ≡ p = omega (arith, h .place) in (
       omega (arith, h .within),
       ap (λ (i : ℕ). letter A (card x i)) (sym z) ∙ not-true (letter A (card x (suc (h .behind)))) (h .passes),
       λ i q l. good i q (omega arith) (h .none),

@@ -4,13 +4,15 @@ use mathlib.Core.Bool.{Bool, true}
 use mathlib.Core.List.{List, [], _∷_, _++_}
 use Prim.Native.Nat.{ℕ}
 use lib.Dec.{eqb}
-use Rattle.words.specs.Lists.{both, each, any, every, keep, firstOf, greatest, joined, sum, equal, run, places, at}
-use Rattle.words.specs.Rows.{card, agree, closes, echo, echoes, downIn, down, chain, reach, reaches, looksFrom, looksAt, looksTo, looks}
-use Rattle.words.specs.Numbers.{DONE, IMPOSSIBLE, HIDDEN, FULL, LAST, letter, foreign, outside, named, unless, alphabet, long, matching, cards, refusal}
+use lib.ListN.{length}
+use Rattle.words.specs.Lists.{both, each, any, every, keep, firstOf, greatest, joined, sum, equal, run, places, falling, at}
+use Rattle.words.specs.Rows.{card, agree, closes, echo, echoes, downIn, down, chain, reach, reaches, borders, periods, looksFrom, looksAt, looksTo, looks}
+use Rattle.words.specs.Numbers.{DONE, IMPOSSIBLE, HIDDEN, FULL, LAST, DIFFERS, letter, foreign, outside, differs, differing, named, unless, alphabet, long, matching, cards, refusal}
 use Rattle.words.specs.Stand.{possible, hidden, opens, weight, weighed, numberAt, fails, firstBad, verdict}
 use Rattle.words.specs.Least.{leastNot, freeLetter, nextCard, rebuilt}
 use Rattle.words.specs.Listing.{more, values, listing, countFrom, standing, count, head, behind}
-use Rattle.words.specs.Outcomes.{kept, given, answered, counted, echoes-outcome, reach-outcome, looks-outcome, judge-outcome, count-outcome, rebuild-rule, next-rule}
+use Rattle.words.specs.Sheet.{decimalIn, decimal, fields, line, text, lines, sheet}
+use Rattle.words.specs.Outcomes.{kept, given, answered, counted, echoes-outcome, reach-outcome, looks-outcome, sheet-outcome, guess-outcome, judge-outcome, count-outcome, rebuild-rule, next-rule}
 
 -- what 01 says of a row or an array over A
 pub data Case : Type 0 where
@@ -20,6 +22,8 @@ pub data Case : Type 0 where
   judged : (A : ℕ) (e : List ℕ) (number place : ℕ) → Case
   rebuilding : (A : ℕ) (e row : List ℕ) → Case
   counting : (A n count : ℕ) → Case
+  writing : (A : ℕ) (row text : List ℕ) → Case
+  guessing : (A : ℕ) (hidden guess : List ℕ) (number place : ℕ) → Case
   stepping : (A : ℕ) (e f : List ℕ) → Case
   ending : (A : ℕ) (e : List ℕ) → Case
 
@@ -43,6 +47,8 @@ holds (judged A e number place) = let r = judge-outcome A e in let w = rebuild-r
     both (both (eqb (r .0) number) (eqb (r .1) place)) (answers w number place (kept r (w .2) (blank e)))
 holds (rebuilding A e row) = answers (rebuild-rule A e (blank e)) DONE 0 row
 holds (counting A n k) = tells (count-outcome A n) k
+holds (writing A row text) = let r = sheet-outcome A row (blank text) in both (tells (r .0, r .1, r .2) (length text)) (equal (r .3) text)
+holds (guessing A x g number place) = let r = guess-outcome A x g in both (eqb (r .0) number) (eqb (r .1) place)
 holds (stepping A e f) = answers (next-rule A e) DONE 0 f
 holds (ending A e) = answers (next-rule A e) LAST 0 e
 
@@ -62,7 +68,18 @@ p4 = 0 ∷ 0 ∷ 1 ∷ 1 ∷ 2 ∷ 3 ∷ 2 ∷ 3 ∷ 4 ∷ 5 ∷ 6 ∷ []
 unfoldable pub p9 : List ℕ
 p9 = 0 ∷ 0 ∷ 1 ∷ 0 ∷ 1 ∷ 2 ∷ 3 ∷ 0 ∷ 1 ∷ 2 ∷ 3 ∷ 4 ∷ 5 ∷ 6 ∷ 7 ∷ []
 
--- in order: P1, P2, P3, P4; P5 to P8; P9; P10, P11; P12; P13, P14; and the least row of 0 0 0, which is abb
+-- 01's sheet, byte for byte
+unfoldable pub abaab : List ℕ
+abaab =
+    115 ∷ 104 ∷ 101 ∷ 101 ∷ 116 ∷ 9 ∷ 53 ∷ 9 ∷ 51 ∷ 10
+    ∷ 101 ∷ 99 ∷ 104 ∷ 111 ∷ 9 ∷ 48 ∷ 9 ∷ 48 ∷ 9 ∷ 49 ∷ 9 ∷ 49 ∷ 9 ∷ 50 ∷ 10
+    ∷ 114 ∷ 101 ∷ 97 ∷ 99 ∷ 104 ∷ 9 ∷ 53 ∷ 9 ∷ 48 ∷ 9 ∷ 49 ∷ 9 ∷ 50 ∷ 9 ∷ 48 ∷ 10
+    ∷ 112 ∷ 101 ∷ 114 ∷ 105 ∷ 111 ∷ 100 ∷ 115 ∷ 9 ∷ 51 ∷ 10
+    ∷ 108 ∷ 111 ∷ 111 ∷ 107 ∷ 115 ∷ 9 ∷ 53 ∷ 10
+    ∷ []
+
+-- in order: P1, P2, P3, P4; P5 to P8; P9; P10, P11; P12; P13, P14; and further the least row of 0 0 0, which is abb; 01's sheet; a guess at abb by abc,
+-- whose cards differ first at place 3 and whose echoes do not, and one whose echoes do
 unfoldable pub table : List Case
 table =
     echoing 1 [] [] ∷ looking 1 [] 0
@@ -80,16 +97,18 @@ table =
     ∷ stepping 3 (0 ∷ 0 ∷ 0 ∷ 1 ∷ []) (0 ∷ 0 ∷ 1 ∷ 0 ∷ []) ∷ stepping 2 (0 ∷ 0 ∷ 0 ∷ 1 ∷ []) (0 ∷ 0 ∷ 1 ∷ 1 ∷ [])
     ∷ ending 2 (0 ∷ 1 ∷ 2 ∷ [])
     ∷ rebuilding 3 (0 ∷ 0 ∷ 0 ∷ []) (a ∷ b ∷ b ∷ [])
+    ∷ writing 3 (a ∷ b ∷ a ∷ a ∷ b ∷ []) abaab
+    ∷ guessing 3 (a ∷ b ∷ b ∷ []) (a ∷ b ∷ c ∷ []) DONE 0 ∷ guessing 2 (a ∷ a ∷ b ∷ []) (a ∷ b ∷ a ∷ []) DIFFERS 2
     ∷ []
 
 -- every case of the table holds
 pub corridors : every holds table ≡ true
-unfolding table p4 p9 holds tells answers blank
-    both each any every keep firstOf greatest joined sum equal run places at
-    card agree closes echo echoes downIn down chain reach reaches looksFrom looksAt looksTo looks
-    letter foreign outside named unless alphabet long matching cards refusal
+unfolding table abaab decimalIn decimal fields line text lines sheet p4 p9 holds tells answers blank
+    both each any every keep firstOf greatest joined sum equal run places falling at
+    card agree closes echo echoes downIn down chain reach reaches borders periods looksFrom looksAt looksTo looks
+    letter foreign outside differs differing named unless alphabet long matching cards refusal
     possible hidden opens weight weighed numberAt fails firstBad verdict
     leastNot freeLetter nextCard rebuilt
     more values listing countFrom standing count head behind
-    kept given answered counted echoes-outcome reach-outcome looks-outcome judge-outcome count-outcome rebuild-rule next-rule
+    kept given answered counted echoes-outcome reach-outcome looks-outcome sheet-outcome guess-outcome judge-outcome count-outcome rebuild-rule next-rule
 corridors = refl

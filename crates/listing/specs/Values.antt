@@ -1,0 +1,95 @@
+-- The values behind standing places, and what the code's steps ask and give. Assumes nothing: these are definitions.
+use mathlib.Core.Path.{_≡_}
+use mathlib.Core.Bool.{Bool, true, false, cond}
+use mathlib.Core.List.{List}
+use Prim.Native.Nat.{ℕ, zero, suc, _+_, _-_, _≤_, _<_}
+use lib.Dec.{ltb, eqb}
+use lib.ListN.{length, take}
+use Rattle.words.specs.Lists.{both, at, placed}
+use Rattle.words.specs.Rows.{down}
+use Rattle.words.specs.Numbers.{DONE}
+use Rattle.words.specs.Stand.{possible, weight, weighed}
+use Rattle.words.specs.Listing.{more, countFrom, Next, StandsAfter}
+use Rattle.words.proofs.Lists.{In}
+use Rattle.arrays.specs.Steps.{Passes, Sound}
+
+-- the greatest value behind the first n places: zero at the first place, and behind it one more than the echo before
+unfoldable pub peak : (ℕ → ℕ) → ℕ → ℕ
+peak E zero = 0
+peak E (suc n) = suc (E (suc n))
+
+-- the sum of the counts behind p over the values 0 to k
+unfoldable pub tried : (List ℕ → ℕ → Bool) → ℕ → List ℕ → ℕ → ℕ
+tried ok r p zero = cond (ok p 0) (countFrom ok r (more p 0)) 0
+tried ok r p (suc k) = tried ok r p k + cond (ok p (suc k)) (countFrom ok r (more p (suc k))) 0
+
+-- m is zero, or possible behind the first i places
+pub data Rung (E : ℕ → ℕ) (i m : ℕ) : Type 0 where
+  ground : m ≡ 0 → Rung E i m
+  step : 0 < i → In m (possible E (E i)) → Rung E i m
+
+-- what trying the value m behind the first i places of e asks, in counting arrays of n places
+pub record Tries (A : ℕ) (e : List ℕ) (i n m : ℕ) : Type 0 where
+  pub within : i < n
+  pub most : n ≤ 20
+  pub long : length e ≡ 20
+  pub passes : Passes A (at e) i
+  pub rung : Rung (at e) i m
+
+-- the open value that the possible value p is, or is hidden behind, where the echo of the place before is b: up the chain from p, each possible value
+-- whose echo is what has been reached takes its place
+unfoldable pub cover : (ℕ → ℕ) → ℕ → ℕ → ℕ
+cover E p b = down E p (λ k t. cond (eqb (suc k) p) p (cond (eqb (E (suc k)) t) (suc k) t)) b
+
+-- what looking for the least open value above v asks, among the possible values up to p behind the first i places
+pub record Looks (E : ℕ → ℕ) (i p v : ℕ) : Type 0 where
+  pub later : 0 < i
+  pub sound : Sound E i
+  pub rung : Rung E i p
+  pub low : v < peak E i
+
+-- r is open and above v, and of the possible values above v none up to p has a lower cover
+pub record Lower (E : ℕ → ℕ) (i p v r : ℕ) : Type 0 where
+  pub shows : weight E (E i) r ≡ DONE
+  pub above : v < r
+  pub least : (q : ℕ) → In q (possible E (E i)) → q ≤ p → v < q → r ≤ cover E q (E i)
+
+-- r is the least value from v on that stands behind the first i places
+pub record LeastValue (A : ℕ) (E : ℕ → ℕ) (i v r : ℕ) : Type 0 where
+  pub from : v ≤ r
+  pub stands : weighed A E i r ≡ DONE
+  pub least : (m : ℕ) → v ≤ m → weighed A E i m ≡ DONE → r ≤ m
+
+-- the place before the k-th is behind the first i and has the same echo
+unfoldable pub repeated : (ℕ → ℕ) → ℕ → ℕ → Bool
+repeated E i k = both (ltb (i + 1) k) (eqb (E (k - 1)) (E k))
+
+-- the first k places stand, and each behind the first i has the least value
+pub record Lows (A : ℕ) (E : ℕ → ℕ) (i k : ℕ) : Type 0 where
+  pub passes : Passes A E k
+  pub least : (j : ℕ) → i ≤ j → j < k → (m : ℕ) → weighed A E j m ≡ DONE → E (suc j) ≤ m
+
+-- f has the first i places of e, and behind them the least values up to the k-th
+pub record Filled (A : ℕ) (e f : List ℕ) (i k : ℕ) : Type 0 where
+  pub long : length f ≡ length e
+  pub kept : take i f ≡ take i e
+  pub lows : Lows A (at f) i k
+
+-- of the places from the i-th to the n-th each has the greatest value; r is the last of n places that has not, 0 where each has it
+pub record Highs (E : ℕ → ℕ) (n i : ℕ) : Type 0 where
+  pub within : i ≤ n
+  pub high : (j : ℕ) → i ≤ j → j < n → peak E j ≤ E (suc j)
+
+pub record Turned (E : ℕ → ℕ) (n r : ℕ) : Type 0 where
+  pub highs : Highs E n r
+  pub grows : (r ≡ 0 → ⊥) → E r < peak E (r - 1)
+
+-- f has the first k places of e, behind them the least value above e's, and the least values behind that
+pub record Raised (A : ℕ) (e f : List ℕ) (k : ℕ) : Type 0 where
+  pub value : LeastValue A (at e) k (at e (k + 1) + 1) (at f (k + 1))
+  pub filled : Filled A (placed e (k + 1) (at f (k + 1))) f (k + 1) (length f)
+
+-- what the step from a standing array leaves, and whether there was one
+pub data Stepped (A : ℕ) (old new : List ℕ) (t : Bool) : Type 0 where
+  stepped : t ≡ true → Next A old new → Stepped A old new t
+  ended : t ≡ false → ((z : List ℕ) → StandsAfter A old z → ⊥) → new ≡ old → Stepped A old new t
