@@ -1,15 +1,15 @@
 -- The words on lines with more bytes behind. Assumes nothing.
 use mathlib.Core.Path.{_≡_, refl, sym, ap, _∙_}
-use mathlib.Core.Bool.{Bool, true, false, cond}
+use mathlib.Core.Bool.{Bool, true, false}
 use mathlib.Core.List.{List, [], _∷_, _++_}
-use Prim.Native.Nat.{ℕ, zero, suc, _+_, _-_, _*_, _≤_, _<_, min}
+use Prim.Native.Nat.{ℕ, suc, _+_, _-_, _*_, _≤_, _<_, min}
 use native.Mathlib.Omega.{arith}
-use lib.Dec.{ltb, leb, eqb}
+use lib.Dec.{leb, eqb}
 use lib.ListN.{length, length-append}
-use borrow.Author.Tests.{eq-eqb, ne-eqb, le-leb, lt-leb, leb-true, leb-false, eqb-true}
+use borrow.Author.Tests.{eq-eqb, ne-eqb, le-leb, lt-leb, leb-true}
 use Rattle.words.specs.Lists.{both, every}
 use Rattle.words.specs.Numbers.{DONE, ALPHABET}
-use Rattle.words.proofs.Lists.{which, either, both-true, both-left, both-right, both-out, not-both}
+use Rattle.words.proofs.Lists.{which, either, both-true, both-left, both-right, both-out}
 use Rattle.lines.specs.Line.{TAB, END, until, past, count, lineOf, digit, numeral, value, good, meaning}
 use Rattle.lines.specs.Taking.{figures}
 

@@ -2,7 +2,7 @@
 use mathlib.Core.Path.{_≡_, refl, sym, ap, subst, _∙_}
 use mathlib.Core.Bool.{Bool, true, false}
 use mathlib.Core.List.{List, [], _∷_, _++_, append-nil, append-assoc}
-use Prim.Native.Nat.{ℕ, zero, suc, _+_, _-_, _*_, _≤_, _<_, min}
+use Prim.Native.Nat.{ℕ, _+_, _-_, _*_, _≤_, _<_, min}
 use native.Mathlib.Omega.{arith}
 use native.Mathlib.Numerals.{add-one}
 use lib.Dec.{ltb}
@@ -10,7 +10,7 @@ use lib.ListN.{length, getD, set, take, length-append, length-set}
 use lib.Seq.{take-nil, take-all, take-append-le, take-suc, take-suc-set}
 use borrow.Author.Tests.{ltb-true, ltb-false, lt-ltb, le-ltb}
 use Rattle.words.specs.Numbers.{DONE, ALPHABET}
-use Rattle.lines.specs.Line.{TAB, END, until, past, count, lineOf, digit, numeral, value, meaning}
+use Rattle.lines.specs.Line.{TAB, END, until, past, count, lineOf, digit, value, meaning}
 use Rattle.lines.specs.Taking.{figures, Shown, Stored, Taken, Ready, Starts, Counts, Grows, Stores, Takes, Means, Tells}
 use Rattle.lines.specs.declared.Figures.{Figures}
 use Rattle.lines.specs.declared.State.{State}
@@ -118,19 +118,19 @@ module _ (b : ℕ) (s : State) (buf : List ℕ) where
       byte : (f : Figures) (n : ℕ) (new : List ℕ)
           → ((l : List ℕ) → s .tabs ≡ min 2 (count TAB l) → Shown (until TAB l) (s .field) → Shown (until TAB (l ++ (b ∷ []))) f)
           → ((l : List ℕ) → s .tabs ≡ min 2 (count TAB l) → Stored (past TAB l) (s .length) buf → Stored (past TAB (l ++ (b ∷ []))) n new)
-          → Takes (b ∷ []) s buf (record { ended = false; tabs = k; field = f; length = n }) new
+          → Takes (b ∷ []) s buf (record { ended = s .ended; tabs = k; field = f; length = n }) new
       unfolding lineOf
       byte f n new p q = record {
         more = λ input h.
             held (input ++ (b ∷ [])) (lineOf input ++ (b ∷ [])) _ new (sym (until-snoc END input b (none input h) inside))
-            (sym (le-ltb 0 (count END (input ++ (b ∷ []))) (omega (arith, none input h, count-more END input (b ∷ []), count-other END b inside))))
+            (going ∙ sym (le-ltb 0 (count END (input ++ (b ∷ []))) (omega (arith, none input h, count-more END input (b ∷ []), count-other END b inside))))
             (tabs .more (count TAB (lineOf input)) (h .tabs) ∙ ap (min 2) (sym (count-more TAB (lineOf input) (b ∷ []))))
             (p (lineOf input) (h .tabs) (h .field))
             (q (lineOf input) (h .tabs) (h .row));
       }
 
       pub takes-row : 0 < s .tabs → (n : ℕ) (new : List ℕ) → Stores b (s .length) buf n new
-          → Takes (b ∷ []) s buf (record { ended = false; tabs = k; field = s .field; length = n }) new
+          → Takes (b ∷ []) s buf (record { ended = s .ended; tabs = k; field = s .field; length = n }) new
       takes-row t n new g = byte (s .field) n new
           (λ l e h. subst (λ (m : List ℕ). Shown m (s .field)) (sym (until-met TAB l (b ∷ []) (λ z. omega arith))) h)
           (λ l e h. subst (λ (m : List ℕ). Stored m n new) (sym (past-met TAB l (b ∷ []) (λ z. omega arith))) (g .more (past TAB l) h))
@@ -139,12 +139,12 @@ module _ (b : ℕ) (s : State) (buf : List ℕ) where
         still : (l : List ℕ) → s .tabs ≡ min 2 (count TAB l) → Stored (past TAB l) (s .length) buf → Stored (past TAB (l ++ (b ∷ []))) (s .length) buf
         still l e h = subst (λ (m : List ℕ). Stored m (s .length) buf) (sym (past-open TAB l b (omega arith))) h
 
-        pub takes-tab : b ≡ TAB → Takes (b ∷ []) s buf (record { ended = false; tabs = k; field = s .field; length = s .length }) buf
+        pub takes-tab : b ≡ TAB → Takes (b ∷ []) s buf (record { ended = s .ended; tabs = k; field = s .field; length = s .length }) buf
         takes-tab t = byte (s .field) (s .length) buf
             (λ l e h. subst (λ (m : List ℕ). Shown m (s .field)) (sym (until-here TAB l b [] t)) h)
             still
 
-        pub takes-figure : (b ≡ TAB → ⊥) → (g : Figures) → Grows b (s .field) g → Takes (b ∷ []) s buf (record { ended = false; tabs = k; field = g; length = s .length }) buf
+        pub takes-figure : (b ≡ TAB → ⊥) → (g : Figures) → Grows b (s .field) g → Takes (b ∷ []) s buf (record { ended = s .ended; tabs = k; field = g; length = s .length }) buf
         takes-figure d g grows = byte g (s .length) buf
             (λ l e h. subst (λ (m : List ℕ). Shown m g) (sym (until-snoc TAB l b (omega arith) d)) (grows .more (until TAB l) h))
             still

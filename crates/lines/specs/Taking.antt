@@ -1,6 +1,6 @@
 -- What the state holds of the input taken so far, however it was cut into pieces. Assumes nothing: these are definitions.
 use mathlib.Core.Path.{_≡_}
-use mathlib.Core.Bool.{Bool, cond}
+use mathlib.Core.Bool.{cond}
 use mathlib.Core.List.{List, [], _∷_, _++_}
 use Prim.Native.Nat.{ℕ, _+_, _*_, _<_, min}
 use lib.Dec.{ltb}

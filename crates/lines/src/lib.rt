@@ -90,46 +90,30 @@ fn count_tab(tabs: u8, b: u8) -> u8
     }
 }
 
+// The state behind one byte more.
 fn step(s: State, row: &mut [u8], b: u8) -> State
     ensures { λ r. ⌜ Takes (b ∷ []) s (now (row .entry)) r (now (row .exit)) ⌝ }
 {
     let f = s.field;
+    let mut t = s;
     if s.ended {
-        return s;
+        return t;
     }
     if b == END {
-        return State {
-            ended: true,
-            tabs: s.tabs,
-            field: f,
-            length: s.length,
-        };
+        t.ended = true;
+        return t;
     }
-    let tabs = count_tab(s.tabs, b);
+    t.tabs = count_tab(s.tabs, b);
     if 0 < s.tabs {
-        let n = store(row, s.length, b);
-        return State {
-            ended: false,
-            tabs: tabs,
-            field: f,
-            length: n,
-        };
+        t.length = store(row, s.length, b);
+        return t;
     }
     if b == TAB {
-        return State {
-            ended: false,
-            tabs: tabs,
-            field: f,
-            length: s.length,
-        };
+        return t;
     }
     let g = figure(f, b);
-    State {
-        ended: false,
-        tabs: tabs,
-        field: g,
-        length: s.length,
-    }
+    t.field = g;
+    t
 }
 
 // The state before the first byte.

@@ -1,21 +1,20 @@
 -- A row of which more cards than the limit are kept is answered as it is whole. Assumes nothing.
-use mathlib.Core.Path.{_≡_, refl, sym, ap, subst, _∙_}
-use mathlib.Core.Bool.{true, false}
+use mathlib.Core.Path.{_≡_, sym, ap, subst, _∙_}
 use mathlib.Core.List.{List, [], _∷_, _++_}
 use Prim.Native.Nat.{ℕ, _+_, _≤_, _<_}
 use native.Mathlib.Omega.{arith}
-use lib.Dec.{leb, eqb}
+use lib.Dec.{leb}
 use lib.ListN.{length, take, drop, length-take, length-append}
 use lib.Seq.{take-all, length-take-le}
 use borrow.Author.Tests.{eq-eqb, ne-eqb, leb-true, leb-false}
-use Rattle.words.specs.Numbers.{DONE, LONG, ROOM, limit, alphabet, long, cards, unless, refusal, sizes, rowed}
+use Rattle.words.specs.Numbers.{DONE, LONG, ROOM, limit, alphabet, cards, unless, refusal, sizes, rowed}
 use Rattle.words.specs.Outcomes.{given, kept, sheet-outcome}
 use Rattle.words.specs.Sheet.{sheet}
 use Rattle.words.proofs.Lists.{which, either, same?}
 use Rattle.words.proofs.Checks.{long-over, refusal-stop, sizes-clear}
 use Rattle.corridor.proofs.Entries.{sheet-refused}
 use Rattle.lines.specs.Line.{lineOf, meaning}
-use Rattle.lines.specs.Taking.{Taken, Ready, Tells}
+use Rattle.lines.specs.Taking.{Ready, Tells}
 use Rattle.lines.specs.declared.State.{State}
 use Rattle.lines.specs.declared.Line.{Line}
 use Rattle.lines.proofs.Pieces.{ready-within}
