@@ -11,17 +11,13 @@ use borrow.Author.Tests.{le-leb, lt-leb, ne-eqb}
 use Rattle.words.specs.Lists.{both, at}
 use Rattle.words.specs.Rows.{card, echo, echoes, reach, reaches}
 use Rattle.words.specs.Numbers.{DONE, ROOM, DIFFERS, differing, named, letters, limit, long, matching, cards, unless, refusal, sizes, lent, rowed, paired}
-use Rattle.words.specs.Stand.{verdict}
-use Rattle.words.specs.Least.{LeastRow, rebuilt}
 use Rattle.words.specs.Sheet.{sheet}
-use Rattle.words.specs.Outcomes.{given, kept, sheet-outcome, guess-outcome, Rebuilds, refuses, breaks, rebuilds}
+use Rattle.words.specs.Outcomes.{given, kept, sheet-outcome, guess-outcome}
 use Rattle.words.specs.Strips.{closed, closing, overlap, joint, joining}
 use Rattle.words.proofs.Lists.{places-length, both-true, both-left, both-right, both-out, which, either}
 use Rattle.words.proofs.Checks.{refusal-stop, refusal-last, refusal-clear, long-clear, matching-clear, sizes-clear, lent-clear}
 use Rattle.rows.proofs.Borders.{echo-zero}
 use Rattle.rows.proofs.Walks.{echoes-long}
-use Rattle.arrays.proofs.Places.{verdict-done}
-use Rattle.arrays.proofs.Theorem.{stands-verdict, verdict-stands, rebuilt-least}
 use Rattle.sheets.specs.Writing.{written}
 use Rattle.sheets.proofs.Outcome.{sheet-written}
 use Rattle.rows.proofs.Growing.{overlap-closes}
@@ -93,31 +89,6 @@ module _ (x y : List ℕ) where
 
 pub part-long : (k : ℕ) (l : List ℕ) → k ≤ length l → k ≡ length (take k l)
 part-long k l h = sym (length-take-le k l h)
-
--- rebuilding, in the demand's words
-module _ (A : ℕ) (e old : List ℕ) (n p : ℕ) (checked : (n, p) ≡ lent A (length e) (length old)) where
-  pub rebuild-refuses : (n ≡ DONE → ⊥) → Rebuilds A e old (n, p) old
-  rebuild-refuses d = refuses d checked refl
-
-  module _ (done : n ≡ DONE) where
-    clear : lent A (length e) (length old) .0 ≡ DONE
-    clear = ap (λ (r : ℕ × ℕ). r .0) (sym checked) ∙ done
-
-    pub rebuild-letters : A ≤ letters
-    rebuild-letters = lent-clear A (length e) (length old) clear .1
-
-    pub rebuild-matches : length e ≡ length old
-    rebuild-matches = sym (lent-clear A (length e) (length old) clear .3)
-
-    module _ (w q : ℕ) (judged : (w, q) ≡ verdict A e) where
-      pub rebuild-breaks : (w ≡ DONE → ⊥) → Rebuilds A e old (w, q) old
-      rebuild-breaks d = breaks clear (λ s. d (ap (λ (r : ℕ × ℕ). r .0) (judged ∙ stands-verdict s))) judged refl
-
-      pub rebuild-least : (new : List ℕ) → w ≡ DONE → new ≡ rebuilt (at e) (length e) → Rebuilds A e old (DONE, 0) new
-      unfolding LeastRow
-      rebuild-least new z h =
-          let a = lent-clear A (length e) (length old) clear .0 in
-          rebuilds clear (subst (λ (x : List ℕ). LeastRow A e x) (sym h) (rebuilt-least a (verdict-stands a e (verdict-done A e w q judged z)))) refl
 
 -- the tables of a sheet
 pub table-long : (x e : List ℕ) → e ≡ echoes x → length x ≤ limit → length e ≤ limit

@@ -1,3 +1,4 @@
 pub mod Entries
+pub mod Stepping
 pub mod Unique
 pub mod Secrecy

@@ -7,7 +7,8 @@ use borrow.Fn.Kinds.{PK, RK, Out, Dens, resT, endedOf}
 use contract.Lifetimes.{Lfts}
 use denote.Triple.Clauses.{AtExit}
 use Rattle.words.specs.Least.{LeastRow}
-use Rattle.words.specs.Outcomes.{Rebuilds, refuses, breaks, rebuilds}
+use Rattle.words.specs.Listing.{First, Next}
+use Rattle.words.specs.Outcomes.{Rebuilds, Starts, Steps, refuses, breaks, rebuilds, starts, ends, steps}
 use Rattle.listing.proofs.Order.{least-one}
 use Rattle.corridor.proofs.echoes.Reads as echoes
 use Rattle.corridor.proofs.echoes.Kinds as echoes-kinds
@@ -23,6 +24,12 @@ use Rattle.corridor.proofs.sheet.Reads as sheet
 use Rattle.corridor.proofs.sheet.Kinds as sheet-kinds
 use Rattle.corridor.proofs.guess.Reads as guess
 use Rattle.corridor.proofs.guess.Kinds as guess-kinds
+use Rattle.corridor.proofs.count.Reads as count
+use Rattle.corridor.proofs.count.Kinds as count-kinds
+use Rattle.corridor.proofs.first.Reads as first
+use Rattle.corridor.proofs.first.Kinds as first-kinds
+use Rattle.corridor.proofs.next.Reads as next
+use Rattle.corridor.proofs.next.Kinds as next-kinds
 use Rattle.corridor.proofs.closing.Reads as closing
 use Rattle.corridor.proofs.closing.Kinds as closing-kinds
 use Rattle.corridor.proofs.joining.Reads as joining
@@ -87,3 +94,41 @@ rebuilds-one (rebuilds c l e) (rebuilds d m f) = both-same (e ∙ sym f) (least-
 -- number, place and the row at exit
 pub rebuild-determined : Determines 2 rebuild-kinds.ps rebuild-kinds.r rebuild.Post {T = ℕ × ℕ × List ℕ} (λ κs r s. (r .number, r .place, s .1 .1 .0 .now))
 rebuild-determined κs a x y s t p q = rebuilds-one p q
+
+-- counting
+pub count-determined : Determines 0 count-kinds.ps count-kinds.r count.Post {T = ℕ × ℕ × ℕ} (λ κs r s. (r .number, r .place, r .count))
+count-determined κs a x y s t p q = p ∙ sym q
+
+-- the first array: there is one least
+starts-one : {A n : ℕ} {old new fresh : List ℕ} {r s : ℕ × ℕ} → Starts A n old r new → Starts A n old s fresh → told r new ≡ told s fresh
+unfolding First
+starts-one (refuses d e k) (refuses c f l) = both-same (e ∙ sym f) (k ∙ sym l)
+starts-one (refuses d e k) (starts c l f) = absurd (d (ap number e ∙ c))
+starts-one (starts c l e) (refuses d f k) = absurd (d (ap number f ∙ c))
+starts-one (starts c l e) (starts d m f) = both-same (e ∙ sym f) (least-one l m)
+
+pub first-determined : Determines 1 first-kinds.ps first-kinds.r first.Post {T = ℕ × ℕ × List ℕ} (λ κs r s. (r .number, r .place, s .1 .1 .0 .now))
+first-determined κs a x y s t p q = starts-one p q
+
+-- the next array: an array stands or does not, something is greater or nothing is, and there is one least
+steps-one : {A : ℕ} {e new fresh : List ℕ} {r s : ℕ × ℕ} → Steps A e r new → Steps A e s fresh → told r new ≡ told s fresh
+unfolding Next
+steps-one (refuses d e k) (refuses c f l) = both-same (e ∙ sym f) (k ∙ sym l)
+steps-one (refuses d e k) (breaks c n f l) = absurd (d (ap number e ∙ c))
+steps-one (refuses d e k) (ends c u n f l) = absurd (d (ap number e ∙ c))
+steps-one (refuses d e k) (steps c u n f) = absurd (d (ap number e ∙ c))
+steps-one (breaks c n e k) (refuses d f l) = absurd (d (ap number f ∙ c))
+steps-one (breaks c n e k) (breaks d m f l) = both-same (e ∙ sym f) (k ∙ sym l)
+steps-one (breaks c n e k) (ends d u m f l) = absurd (n u)
+steps-one (breaks c n e k) (steps d u m f) = absurd (n u)
+steps-one (ends c u n e k) (refuses d f l) = absurd (d (ap number f ∙ c))
+steps-one (ends c u n e k) (breaks d m f l) = absurd (m u)
+steps-one (ends c u n e k) (ends d v m f l) = both-same (e ∙ sym f) (k ∙ sym l)
+steps-one {fresh} (ends c u n e k) (steps d v m f) = absurd (n fresh (m .is))
+steps-one (steps c u n e) (refuses d f l) = absurd (d (ap number f ∙ c))
+steps-one (steps c u n e) (breaks d m f l) = absurd (m u)
+steps-one {new} (steps c u n e) (ends d v m f l) = absurd (m new (n .is))
+steps-one (steps c u n e) (steps d v m f) = both-same (e ∙ sym f) (least-one n m)
+
+pub next-determined : Determines 1 next-kinds.ps next-kinds.r next.Post {T = ℕ × ℕ × List ℕ} (λ κs r s. (r .number, r .place, s .1 .0 .now))
+next-determined κs a x y s t p q = steps-one p q

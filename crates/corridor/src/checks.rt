@@ -120,22 +120,22 @@ pub fn cards(a: usize, row: &[u8]) -> Answer
     named(CARD, outside(a, row))
 }
 
-// 1, then 2: the alphabet, and the length n of a row or array.
-pub fn sizes(a: usize, n: usize) -> Answer
-    ensures { λ r. ⌜ (r .number, r .place) ≡ sizesOf a n ⌝ }
+// 1, then 2: the alphabet, and a length n of at most so many.
+pub fn sizes(a: usize, most: usize, n: usize) -> Answer
+    ensures { λ r. ⌜ (r .number, r .place) ≡ refusal (alphabetOf a ∷ longOf most n ∷ []) ⌝ }
 {
     let r = alphabet(a);
     if r.number != DONE {
         return r;
     }
-    long(LIMIT, n)
+    long(most, n)
 }
 
 // 1, 2, then 3: and a lent slice of m entries that must have n.
 pub fn lent(a: usize, n: usize, m: usize) -> Answer
     ensures { λ r. ⌜ (r .number, r .place) ≡ lentOf a n m ⌝ }
 {
-    let r = sizes(a, n);
+    let r = sizes(a, LIMIT, n);
     if r.number != DONE {
         return r;
     }
@@ -146,7 +146,7 @@ pub fn lent(a: usize, n: usize, m: usize) -> Answer
 pub fn whole_row(a: usize, row: &[u8]) -> Answer
     ensures { λ r. ⌜ (r .number, r .place) ≡ refusal (sizesOf a (length (now (row .entry))) ∷ cardsOf a (now (row .entry)) ∷ []) ⌝ }
 {
-    let r = sizes(a, row.len());
+    let r = sizes(a, LIMIT, row.len());
     if r.number != DONE {
         return r;
     }
@@ -168,7 +168,7 @@ pub fn row_and_slice(a: usize, row: &[u8], m: usize) -> Answer
 fn two_lengths(a: usize, n: usize, m: usize) -> Answer
     ensures { λ r. ⌜ (r .number, r .place) ≡ refusal (sizesOf a n ∷ longOf limit m ∷ matchingOf n m ∷ []) ⌝ }
 {
-    let r = sizes(a, n);
+    let r = sizes(a, LIMIT, n);
     if r.number != DONE {
         return r;
     }

@@ -2,14 +2,16 @@
 mod checks;
 mod tables;
 
+use words::COUNT_LIMIT;
 use words::DIFFERS;
 use words::DONE;
+use words::LAST;
 use words::LIMIT;
 ghost use mathlib.Core.Path.{_≡_};
 ghost use Prim.Native.Nat.{_≤_};
 ghost use lib.ListN.{length};
 ghost use Rattle.words.specs.Strips.{closed, closing as closingOf, joint, joining as joiningOf};
-ghost use Rattle.words.specs.Outcomes.{echoes-outcome, reach-outcome, looks-outcome, sheet-outcome, guess-outcome, judge-outcome, Rebuilds};
+ghost use Rattle.words.specs.Outcomes.{echoes-outcome, reach-outcome, looks-outcome, sheet-outcome, guess-outcome, judge-outcome, count-outcome, Rebuilds, Starts, Steps};
 
 // A number and its place; 0 at place 0 is done.
 pub struct Answer {
@@ -116,7 +118,7 @@ pub fn reach(a: usize, row: &[u8], out: &mut [u16]) -> Answer
 pub fn judge(a: usize, e: &[u16]) -> Answer
     ensures { λ r. ⌜ (r .number, r .place) ≡ judge-outcome a (now (e .entry)) ⌝ }
 {
-    let r = checks::sizes(a, e.len());
+    let r = checks::sizes(a, LIMIT, e.len());
     if r.number != DONE {
         return r;
     }
@@ -185,4 +187,67 @@ pub fn guess(a: usize, hidden: &[u8], guess: &[u8]) -> Answer
         return r;
     }
     checks::named(DIFFERS, tables::difference_within(hidden, guess))
+}
+
+// How many arrays of n places stand over a letters. Numbers 1 and 2, where 2 is for n over 20.
+pub fn count(a: usize, n: usize) -> Counted
+    ensures { λ r. ⌜ (r .number, r .place, r .count) ≡ count-outcome a n ⌝ }
+{
+    let r = checks::sizes(a, COUNT_LIMIT, n);
+    if r.number != DONE {
+        return Counted {
+            number: r.number,
+            place: r.place,
+            count: 0,
+        };
+    }
+    let k = listing::count(a, n);
+    Counted {
+        number: r.number,
+        place: r.place,
+        count: k,
+    }
+}
+
+// Writes the least standing array of n places into a buffer of n entries. Numbers 1, 2 and 3.
+pub fn first(a: usize, n: usize, out: &mut [u16]) -> Answer
+    ensures { λ r. ⌜ Starts a n (now (out .entry)) (r .number, r .place) (now (out .exit)) ⌝ }
+{
+    let r = checks::lent(a, n, out.len());
+    if r.number != DONE {
+        return r;
+    }
+    listing::first(a, out);
+    Answer {
+        number: DONE,
+        place: 0,
+    }
+}
+
+// Replaces the array by the least standing one of its length that is greater. Numbers 1, 2, 5, 6, 7 and 9.
+pub fn next(a: usize, e: &mut [u16]) -> Answer
+    ensures { λ r. ⌜ Steps a (now (e .entry)) (r .number, r .place) (now (e .exit)) ⌝ }
+{
+    let r = checks::sizes(a, LIMIT, e.len());
+    if r.number != DONE {
+        return r;
+    }
+    let verdict = arrays::judge(a, e);
+    if verdict.number != DONE {
+        return Answer {
+            number: verdict.number,
+            place: verdict.place,
+        };
+    }
+    if listing::next(a, e) {
+        Answer {
+            number: DONE,
+            place: 0,
+        }
+    } else {
+        Answer {
+            number: LAST,
+            place: 0,
+        }
+    }
 }

@@ -12,10 +12,9 @@ use Rattle.words.specs.Lists.{keep, run, at}
 use Rattle.words.specs.Numbers.{DONE}
 use Rattle.words.specs.Stand.{Stands, opens, weighed}
 use Rattle.words.specs.Listing.{values, standing, countFrom, count}
-use Rattle.words.proofs.Lists.{which, either, In, here, there, In-nil, In-cons, In-here, keep-in}
+use Rattle.words.proofs.Lists.{which, either, In, here, there, In-nil, In-cons, In-here, keep-in, Falls, keep-falls}
 use Rattle.words.specs.Rows.{Small}
 use Rattle.arrays.specs.Steps.{Passes}
-use Rattle.arrays.proofs.Members.{Falling, keep-falling}
 use Rattle.arrays.proofs.Pigeon.{Distinct, but, keep-shorter}
 use Rattle.arrays.proofs.Rules.{possible-range, possible-top, possible-falling, open-in, open-out, weight-open, weighed-first, weighed-more, weighed-fits, weighed-room, weighed-done, passes-sound, sound-small, top-open, opens-at-most}
 use Rattle.arrays.proofs.Theorem.{stands-passes}
@@ -40,8 +39,8 @@ unfolding Up Distinct
 up-distinct [] u = tt
 up-distinct (x ∷ l) u = ((λ i. omega (arith, u .0 x i)), up-distinct l (u .1))
 
-falling-distinct : (l : List ℕ) → Falling l → Distinct l
-unfolding Falling Distinct
+falling-distinct : (l : List ℕ) → Falls l → Distinct l
+unfolding Falls Distinct
 falling-distinct [] f = tt
 falling-distinct (x ∷ l) f = ((λ i. omega (arith, f .0 x i)), falling-distinct l (f .1))
 
@@ -70,7 +69,7 @@ module _ {A : ℕ} {E : ℕ → ℕ} {n : ℕ} (passes : Passes A E (suc n)) whe
 
   opens-distinct : Distinct (opens E (E (suc n)))
   unfolding opens
-  opens-distinct = falling-distinct _ (keep-falling _ _ (possible-falling small (E (suc n)) (omega (arith, low))))
+  opens-distinct = falling-distinct _ (keep-falls _ _ (possible-falling small (E (suc n)) (omega (arith, low))))
 
   opens-some : 0 < length (opens E (E (suc n)))
   opens-some = in-some (open-in E _ _ (possible-top small (E (suc n)) (omega (arith, low))) (top-open (passes-sound passes) (E (suc n)) (omega (arith, low))))

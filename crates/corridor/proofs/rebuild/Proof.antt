@@ -1,7 +1,7 @@
 -- `corridor::rebuild`. Assumes nothing.
 use borrow.Author.Needs.{needs}
 use Rattle.arrays.proofs.Places.{verdict-done}
-use Rattle.corridor.proofs.Entries.{rebuild-refuses, rebuild-breaks, rebuild-letters, rebuild-matches, rebuild-least}
+use Rattle.corridor.proofs.Stepping.{rebuild-refuses, rebuild-breaks, rebuild-letters, rebuild-matches, rebuild-least}
 use Rattle.corridor.proofs.rebuild.Statement.{statement}
 use Rattle.corridor.proofs.rebuild.Tie as tie
 
