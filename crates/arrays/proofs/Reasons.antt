@@ -12,7 +12,7 @@ use Rattle.words.proofs.Lists.{which, either, In, zero-or-more, in?}
 use Rattle.arrays.specs.Steps.{Passes, Possible, Reason, first, room, shows, impossible, hides, full}
 use Rattle.arrays.proofs.Rules.{possible-above, open-in, open-out, small-at, sound-small, passes-sound, opens-at-most, weight-open, weight-hidden, weight-not, weighed-first, weighed-second, weighed-more, weighed-fits, weighed-full}
 
-above : (E : ℕ → ℕ) (n m : ℕ) → 0 < m → Possible E n m → (0 < n) × In m (possible E (E n))
+pub above : (E : ℕ → ℕ) (n m : ℕ) → 0 < m → Possible E n m → (0 < n) × In m (possible E (E n))
 unfolding Possible
 above E n m p (inl z) = absurd (omega arith)
 above E n m p (inr q) = q

@@ -1,12 +1,13 @@
 -- Counting in the code's terms: the values at a place, tried from the greatest down the chain. Assumes nothing.
 use mathlib.Core.Path.{_≡_, refl, sym, ap, subst, _∙_}
-use mathlib.Core.Bool.{Bool, true, false, cond}
-use mathlib.Core.List.{List, [], _∷_}
-use Prim.Native.Nat.{ℕ, zero, suc, _+_, _-_, _*_, _^_, _≤_, _<_}
+use mathlib.Core.Bool.{Bool, true, false}
+use mathlib.Core.Logic.{_⊎_, inl, inr}
+use mathlib.Core.List.{List, []}
+use Prim.Native.Nat.{ℕ, zero, suc, _+_, _-_, _*_, _≤_, _<_}
 use native.Mathlib.Omega.{arith}
 use native.Mathlib.Numerals.{add-one, sub-one}
-use lib.ListN.{length, take, getD, set}
-use lib.Seq.{length-take-le, take-suc-set, getD-set-other}
+use lib.ListN.{length, take}
+use lib.Seq.{length-take-le, take-suc-set}
 use mir.Syntax.{w64}
 use mir.Val.{Fits}
 use borrow.Author.Tests.{ne-eqb}
@@ -17,10 +18,11 @@ use Rattle.words.specs.Stand.{possible, opens, weighed}
 use Rattle.words.specs.Listing.{more, values, countFrom, standing, count}
 use Rattle.words.proofs.Lists.{which, either, same?, In, there, placed-same, placed-other}
 use Rattle.words.proofs.Rows.{alike-part, alike-take}
-use Rattle.arrays.specs.Steps.{Passes, Sound}
-use Rattle.arrays.proofs.Rules.{small-at, echo-low, possible-range, possible-suc, possible-top, possible-part, possible-below, weighed-done, passes-sound, passes-part, sound-small}
+use Rattle.arrays.specs.Steps.{Passes, Sound, Possible}
+use Rattle.arrays.proofs.Rules.{small-at, possible-range, possible-suc, possible-top, possible-part, possible-below, weighed-done, passes-sound, passes-part, sound-small}
+use Rattle.arrays.proofs.Reasons.{above}
 use Rattle.arrays.proofs.Alike.{weighed-alike, passes-alike, opens-alike}
-use Rattle.listing.specs.Values.{peak, tried, Rung, ground, step, Tries}
+use Rattle.listing.specs.Values.{peak, tried, Tries}
 use Rattle.listing.proofs.Sizes.{count-last, count-fits}
 use Rattle.listing.proofs.Few.{values-first, values-room, values-full}
 use Rattle.listing.proofs.Peak.{passes-suc, weighed-take, standing-in, peak-low, peak-most}
@@ -125,34 +127,37 @@ module _ {A : ℕ} {E : ℕ → ℕ} {i : ℕ} (passes : Passes A E i) where
   small : Small E i
   small = sound-small i (passes-sound passes)
 
-  pub rung-top : Rung E i (peak E i)
-  unfolding peak
-  rung-top = go i small
+  pub peak-possible : Possible E i (peak E i)
+  unfolding peak Possible
+  peak-possible = go i small
     where
-      go : (i : ℕ) → Small E i → Rung E i (peak E i)
-      go zero s = ground refl
-      go (suc i) s = step (omega arith) (possible-top s (E (suc i)) (omega (arith, s .below i (omega arith))))
+      go : (i : ℕ) → Small E i → (peak E i ≡ 0) ⊎ ((0 < i) × In (peak E i) (possible E (E i)))
+      go zero s = inl refl
+      go (suc i) s = inr (omega arith, possible-top s (E (suc i)) (omega (arith, s .below i (omega arith))))
 
   start-low : 0 < i → E i < i
   start-low l = small-at small i l (omega arith)
 
-  pub rung-most : (m : ℕ) → Rung E i m → m ≤ i
-  rung-most m (ground z) = omega arith
-  rung-most m (step l j) = omega (arith, start-low l, possible-range small (E i) (omega (arith, start-low l)) m j)
+  pub value-most : (m : ℕ) → Possible E i m → m ≤ i
+  value-most m h = either (same? m 0)
+      (λ z. omega arith)
+      (λ d. let (l, j) = above E i m (omega arith) h in omega (arith, start-low l, possible-range small (E i) (omega (arith, start-low l)) m j))
 
-  pub rung-low : (m : ℕ) → Rung E i m → 0 < m → peak E (m - 1) < m
-  rung-low m h l = omega (arith, peak-low (m - 1) (passes-part (m - 1) (omega (arith, rung-most m h)) passes))
+  pub value-above : (m : ℕ) → Possible E i m → 0 < m → peak E (m - 1) < m
+  value-above m h l = omega (arith, peak-low (m - 1) (passes-part (m - 1) (omega (arith, value-most m h)) passes))
 
-  next-at : (m : ℕ) → m ≤ i → 0 < i → In m (possible E (E i)) → 0 < m → Rung E i (peak E (m - 1))
-  unfolding peak
-  next-at zero k l j q = absurd (omega arith)
-  next-at (suc zero) k l j q = ground refl
-  next-at (suc (suc c)) k l j q = rw sub-one (step l (possible-part small (suc c) (E i) (omega (arith, start-low l)) j (suc (E (suc c)))
-      (rw (possible-suc small c (omega arith)) (there (possible-top small (E (suc c)) (omega (arith, small .below c (omega arith))))))))
+  next-at : (m : ℕ) → m ≤ i → 0 < i → In m (possible E (E i)) → Possible E i (peak E (m - 1))
+  unfolding peak Possible
+  next-at zero k l j = inl refl
+  next-at (suc zero) k l j = inl refl
+  next-at (suc (suc c)) k l j = rw sub-one (inr (
+    l,
+    possible-part small (suc c) (E i) (omega (arith, start-low l)) j (suc (E (suc c)))
+        (rw (possible-suc small c (omega arith)) (there (possible-top small (E (suc c)) (omega (arith, small .below c (omega arith)))))),
+  ))
 
-  pub rung-next : (m : ℕ) → Rung E i m → 0 < m → Rung E i (peak E (m - 1))
-  rung-next m (ground z) q = absurd (omega arith)
-  rung-next m (step l j) q = next-at m (rung-most m (step l j)) l j q
+  pub next-value : (m : ℕ) → Possible E i m → 0 < m → Possible E i (peak E (m - 1))
+  next-value m h q = let (l, j) = above E i m q h in next-at m (value-most m h) l j
 
   pub gap : (m j : ℕ) → 0 < i → m ≤ i → In m (possible E (E i)) → In j (possible E (E i)) → j < m → j ≤ peak E (m - 1)
   unfolding peak
@@ -162,9 +167,10 @@ module _ {A : ℕ} {E : ℕ → ℕ} {i : ℕ} (passes : Passes A E i) where
       (possible-below small (suc c) (E i) (omega (arith, start-low l)) q j h (omega arith)) .1)
 
   -- no value stands between a possible one and the next
-  rung-gap : (m j : ℕ) → Rung E i m → peak E (m - 1) < j → j < m → weighed A E i j ≡ DONE → ⊥
-  rung-gap m j (ground z) a b w = omega arith
-  rung-gap m j (step l q) a b w = either (weighed-done A E i j w) (λ e. omega arith) (λ r. omega (arith, gap m j l (rung-most m (step l q)) q (r .1) b))
+  value-gap : (m j : ℕ) → Possible E i m → peak E (m - 1) < j → j < m → weighed A E i j ≡ DONE → ⊥
+  value-gap m j h a b w = let (l, q) = above E i m (omega arith) h in either (weighed-done A E i j w)
+      (λ e. omega arith)
+      (λ r. omega (arith, gap m j l (value-most m h) q (r .1) b))
 
 -- the first i places of e stand
 module _ (A : ℕ) (e : List ℕ) (i n : ℕ) (long : length e ≡ 20) (most : n ≤ 20) (passes : Passes A (at e) i) where
@@ -196,7 +202,7 @@ module _ (A : ℕ) (e : List ℕ) (i n : ℕ) (long : length e ≡ 20) (most : n
   open-falls k t l z h = omega (arith, peak-low i passes)
 
   pub open-tries : (k : ℕ) → i ≤ n → (i ≡ n → ⊥) → k ≡ peak (at e) i → Tries A e i n k
-  open-tries k l d z = record { within = omega arith; most = most; long = long; passes = passes; rung = rw z (rung-top passes) }
+  open-tries k l d z = record { within = omega arith; most = most; long = long; passes = passes; value = rw z (peak-possible passes) }
 
 -- `try_values`: the value m, and f with it written
 module _ (A : ℕ) (e : List ℕ) (i n m : ℕ) (tries : Tries A e i n m) where
@@ -207,21 +213,21 @@ module _ (A : ℕ) (e : List ℕ) (i n m : ℕ) (tries : Tries A e i n m) where
   tries-in = omega (arith, tries .within, tries .most)
 
   pub tries-small : m < 65536
-  tries-small = omega (arith, tries-in, rung-most (tries .passes) m (tries .rung))
+  tries-small = omega (arith, tries-in, value-most (tries .passes) m (tries .value))
 
   pub tries-sound : (m ≡ 0 → ⊥) → Sound (at e) (m - 1)
-  tries-sound d = passes-sound (passes-part (m - 1) (omega (arith, rung-most (tries .passes) m (tries .rung))) (tries .passes))
+  tries-sound d = passes-sound (passes-part (m - 1) (omega (arith, value-most (tries .passes) m (tries .value))) (tries .passes))
 
   pub tries-below : (n : ℕ) → n ≡ 20 → m - 1 ≤ n
-  tries-below n z = omega (arith, tries-in, rung-most (tries .passes) m (tries .rung))
+  tries-below n z = omega (arith, tries-in, value-most (tries .passes) m (tries .value))
 
   -- the next value below
   module _ (k : ℕ) (next : k ≡ peak (at e) (m - 1)) (above : m ≡ 0 → ⊥) where
     pub next-falls : (t : ℕ) → (n - i) * 32 + m ≡ t → (n - i) * 32 + k < t
-    next-falls t z = omega (arith, rung-low (tries .passes) m (tries .rung) (omega arith))
+    next-falls t z = omega (arith, value-above (tries .passes) m (tries .value) (omega arith))
 
     pub next-tries : Tries A e i n k
-    next-tries = record { within = tries .within; most = tries .most; long = tries .long; passes = tries .passes; rung = rw next (rung-next (tries .passes) m (tries .rung) (omega arith)) }
+    next-tries = record { within = tries .within; most = tries .most; long = tries .long; passes = tries .passes; value = rw next (next-value (tries .passes) m (tries .value) (omega arith)) }
 
   module _ (w : ℕ) (is : w ≡ weighed A (at e) i m) where
     pub tried-passes : (f : List ℕ) → f ≡ placed e (i + 1) m → w ≡ DONE → Passes A (at f) (i + 1)
@@ -247,8 +253,8 @@ module _ (A : ℕ) (e : List ℕ) (i n m : ℕ) (tries : Tries A e i n m) where
 
     module _ (k rest : ℕ) (next : k ≡ peak (at e) (m - 1)) (above : m ≡ 0 → ⊥) (below : rest ≡ tried (standing A) (n - (i + 1)) (take i e) k) where
       skipped : rest ≡ tried (standing A) (n - (i + 1)) (take i e) (m - 1)
-      skipped = below ∙ sym (tried-skip (standing A) (n - (i + 1)) (take i e) k (m - 1) (omega (arith, rung-low (tries .passes) m (tries .rung) (omega arith)))
-          (λ j a b. no-value A e i n (tries .long) (tries .most) (tries .passes) j (tries .within) (λ v. rung-gap (tries .passes) m j (tries .rung) (omega arith) (omega arith) v)))
+      skipped = below ∙ sym (tried-skip (standing A) (n - (i + 1)) (take i e) k (m - 1) (omega (arith, value-above (tries .passes) m (tries .value) (omega arith)))
+          (λ j a b. no-value A e i n (tries .long) (tries .most) (tries .passes) j (tries .within) (λ v. value-gap (tries .passes) m j (tries .value) (omega arith) (omega arith) v)))
 
       pub more-yes : (r : ℕ) (f : List ℕ) → w ≡ DONE → f ≡ placed e (i + 1) m → r ≡ countFrom (standing A) (n - (i + 1)) (take (i + 1) f)
           → rest + r ≡ tried (standing A) (n - (i + 1)) (take i e) m
@@ -266,7 +272,7 @@ sum-fits A e i n m w k rest r f t is next b q h z above = let l = length-take-le
     t .within,
     t .most,
     more-yes A e i n m t w is k rest next above b r f z q h,
-    tried-most (standing A) (n - (i + 1)) (take i e) m (omega (arith, l, rung-most (t .passes) m (t .rung))),
+    tried-most (standing A) (n - (i + 1)) (take i e) m (omega (arith, l, value-most (t .passes) m (t .value))),
     count-fits (standing A) (suc (n - (i + 1))) (take i e) (omega (arith, l, t .within, t .most)),
   );
 }

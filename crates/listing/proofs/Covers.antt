@@ -2,7 +2,6 @@
 -- cover of the possible values above v, and only those whose own echo is not above v need be looked at: one for each letter. Assumes nothing.
 use mathlib.Core.Path.{_≡_, refl, sym, ap, subst, _∙_}
 use mathlib.Core.Bool.{cond}
-use mathlib.Core.List.{_∷_}
 use Prim.Native.Nat.{ℕ, zero, suc, _+_, _-_, _≤_, _<_}
 use native.Mathlib.Omega.{arith}
 use native.Mathlib.Numerals.{add-one}
@@ -10,14 +9,15 @@ use lib.Dec.{eqb}
 use borrow.Author.Tests.{eq-eqb, ne-eqb}
 use Rattle.words.specs.Rows.{Small}
 use Rattle.words.specs.Numbers.{DONE}
-use Rattle.words.specs.Stand.{possible, weight, weighed}
+use Rattle.words.specs.Stand.{possible, weight}
 use Rattle.words.proofs.Lists.{either, same?, In, In-nil, In-cons}
 use Rattle.words.proofs.Rows.{down-ind, down-zero, down-suc}
 use Rattle.arrays.specs.Steps.{Passes, Sound}
-use Rattle.arrays.proofs.Rules.{possible-above, possible-zero, possible-suc, possible-range, possible-top, small-at, weight-open, weight-done, weighed-more, sound-at, sound-small, sound-part, passes-sound, echo-possible, walk-top, walk-hit, walk-on}
-use Rattle.listing.specs.Values.{peak, cover, Rung, ground, step, Looks, Lower, LeastValue}
-use Rattle.listing.proofs.Peak.{peak-low, peak-most}
-use Rattle.listing.proofs.Counting.{rung-top, rung-most, rung-low, rung-next, gap}
+use Rattle.arrays.proofs.Rules.{possible-above, possible-zero, possible-suc, possible-range, small-at, weight-open, weight-done, weighed-more, sound-at, sound-small, sound-part, passes-sound, echo-possible, walk-top, walk-hit, walk-on}
+use Rattle.arrays.proofs.Reasons.{above}
+use Rattle.listing.specs.Values.{peak, cover, Seeks, Lower, LeastValue}
+use Rattle.listing.proofs.Peak.{peak-most}
+use Rattle.listing.proofs.Counting.{value-most, value-above, next-value, gap}
 
 cover-zero : (E : ℕ → ℕ) (p : ℕ) → cover E p 0 ≡ p
 unfolding cover
@@ -147,18 +147,18 @@ module _ (E : ℕ → ℕ) (b p : ℕ) (sound : Sound E (suc b)) (is : In p (pos
             g ∙ sym (cover-on sound p c (omega arith) (λ q. past (omega arith)) (λ q. h (echo ∙ ap E (omega arith) ∙ q ∙ sym g ∙ sym reached)))))
 
 -- `least_open`: down the possible values from p
-module _ (E : ℕ → ℕ) (i p v : ℕ) (looks : Looks E i p v) where
-  passes : Passes (looks .sound .over) E i
-  passes = looks .sound .passes
+module _ (E : ℕ → ℕ) (i p v : ℕ) (seeks : Seeks E i p v) where
+  passes : Passes (seeks .sound .over) E i
+  passes = seeks .sound .passes
 
   echo-in : E i < i
-  echo-in = small-at (sound-small i (looks .sound)) i (looks .later) (omega arith)
+  echo-in = small-at (sound-small i (seeks .sound)) i (seeks .later) (omega arith)
 
-  pub look-none : (r : ℕ) → r ≡ peak E i → p ≤ v → Lower E i p v r
+  pub lower-none : (r : ℕ) → r ≡ peak E i → p ≤ v → Lower E i p v r
   unfolding peak
-  look-none r e h = record {
-    shows = rw e (go i (looks .later) (looks .sound));
-    above = omega (arith, looks .low);
+  lower-none r e h = record {
+    shows = rw e (go i (seeks .later) (seeks .sound));
+    above = omega (arith, seeks .low);
     least = λ q j l g. absurd (omega arith);
   }
     where
@@ -168,59 +168,55 @@ module _ (E : ℕ → ℕ) (i p v : ℕ) (looks : Looks E i p v) where
 
   module _ (more : v < p) where
     there-is : In p (possible E (E i))
-    there-is = go p (looks .rung) more
-      where
-        go : (p : ℕ) → Rung E i p → v < p → In p (possible E (E i))
-        go p (ground z) h = absurd (omega arith)
-        go p (step l j) h = j
+    there-is = above E i p (omega arith) (seeks .value) .1
 
-    look-at : p ≤ i
-    look-at = rung-most passes p (looks .rung)
+    lower-at : p ≤ i
+    lower-at = value-most passes p (seeks .value)
 
-    pub look-within : (n : ℕ) → i ≤ n → p ≤ n
-    look-within n h = omega (arith, look-at)
+    pub lower-within : (n : ℕ) → i ≤ n → p ≤ n
+    lower-within n h = omega (arith, lower-at)
 
-    pub look-below : (n : ℕ) → i ≤ n → p - 1 ≤ n
-    look-below n h = omega (arith, look-at)
+    pub lower-below : (n : ℕ) → i ≤ n → p - 1 ≤ n
+    lower-below n h = omega (arith, lower-at)
 
-    pub look-less : Sound E (p - 1)
-    look-less = sound-part (p - 1) (omega (arith, look-at)) (looks .sound)
+    pub lower-less : Sound E (p - 1)
+    lower-less = sound-part (p - 1) (omega (arith, lower-at)) (seeks .sound)
 
     module _ (b : ℕ) (is : b ≡ E i) where
-      pub look-in : (n : ℕ) → i ≤ n → b < n
-      look-in n h = omega (arith, echo-in)
+      pub lower-in : (n : ℕ) → i ≤ n → b < n
+      lower-in n h = omega (arith, echo-in)
 
-      pub look-sound : Sound E (suc b)
-      look-sound = sound-part (suc b) (omega (arith, echo-in)) (looks .sound)
+      pub lower-sound : Sound E (suc b)
+      lower-sound = sound-part (suc b) (omega (arith, echo-in)) (seeks .sound)
 
-      pub look-possible : In p (possible E b)
-      look-possible = rw is there-is
+      pub lower-possible : In p (possible E b)
+      lower-possible = rw is there-is
 
     module _ (k : ℕ) (next : k ≡ peak E (p - 1)) where
-      pub look-falls : (t : ℕ) → p ≡ t → k < t
-      look-falls t z = omega (arith, rung-low passes p (looks .rung) (omega arith))
+      pub lower-falls : (t : ℕ) → p ≡ t → k < t
+      lower-falls t z = omega (arith, value-above passes p (seeks .value) (omega arith))
 
-      pub look-next : Looks E i k v
-      look-next = record { later = looks .later; sound = looks .sound; rung = rw next (rung-next passes p (looks .rung) (omega arith)); low = looks .low }
+      pub lower-next : Seeks E i k v
+      lower-next = record { later = seeks .later; sound = seeks .sound; value = rw next (next-value passes p (seeks .value) (omega arith)); low = seeks .low }
 
       -- the possible values up to p are p, and those up to the next
       rest-of : (r : ℕ) → ((q : ℕ) → In q (possible E (E i)) → q ≤ k → v < q → r ≤ cover E q (E i)) → r ≤ cover E p (E i)
           → (q : ℕ) → In q (possible E (E i)) → q ≤ p → v < q → r ≤ cover E q (E i)
       rest-of r below here q j l g = either (same? q p)
           (λ e. rw e here)
-          (λ d. below q j (omega (arith, gap passes p q (looks .later) look-at there-is j (omega arith))) g)
+          (λ d. below q j (omega (arith, gap passes p q (seeks .later) lower-at there-is j (omega arith))) g)
 
       module _ (rest x : ℕ) (lower : Lower E i k v rest) (echo : x ≡ E p) where
-        pub look-far : v < x → Lower E i p v rest
-        look-far h = record {
+        pub lower-far : v < x → Lower E i p v rest
+        lower-far h = record {
           shows = lower .shows;
           above = lower .above;
-          least = rest-of rest (lower .least) (rw (← cover-echo (looks .sound) (E i) echo-in p there-is (omega arith))
-              (lower .least (E p) (echo-possible (looks .sound) (E i) echo-in p there-is (omega arith))
+          least = rest-of rest (lower .least) (rw (← cover-echo (seeks .sound) (E i) echo-in p there-is (omega arith))
+              (lower .least (E p) (echo-possible (seeks .sound) (E i) echo-in p there-is (omega arith))
               (omega (
                 arith,
-                gap passes p (E p) (looks .later) look-at there-is (echo-possible (looks .sound) (E i) echo-in p there-is (omega arith))
-                    (small-at (sound-small i (looks .sound)) p (omega arith) look-at),
+                gap passes p (E p) (seeks .later) lower-at there-is (echo-possible (seeks .sound) (E i) echo-in p there-is (omega arith))
+                    (small-at (sound-small i (seeks .sound)) p (omega arith) lower-at),
               ))
               (omega arith)));
         }
@@ -229,15 +225,15 @@ module _ (E : ℕ → ℕ) (i p v : ℕ) (looks : Looks E i p v) where
           covers-at : t ≡ cover E p (E i)
           covers-at = covers ∙ ap (cover E p) is
 
-          pub look-lower : t < rest → Lower E i p v t
-          look-lower h = let (w, l) = cover-open (looks .sound) (E i) echo-in p there-is in record {
+          pub lower-this : t < rest → Lower E i p v t
+          lower-this h = let (w, l) = cover-open (seeks .sound) (E i) echo-in p there-is in record {
             shows = rw covers-at w;
             above = omega (arith, covers-at);
             least = rest-of t (λ q j a g. omega (arith, lower .least q j a g)) (omega (arith, covers-at));
           }
 
-          pub look-kept : rest ≤ t → Lower E i p v rest
-          look-kept h = record { shows = lower .shows; above = lower .above; least = rest-of rest (lower .least) (omega (arith, covers-at)) }
+          pub lower-kept : rest ≤ t → Lower E i p v rest
+          lower-kept h = record { shows = lower .shows; above = lower .above; least = rest-of rest (lower .least) (omega (arith, covers-at)) }
 
 -- all the possible values looked at: the least value from v + 1 on that stands
 pub lower-least : (A : ℕ) (E : ℕ → ℕ) (i p v r : ℕ) → Passes A E i → 0 < i → p ≡ peak E i → Lower E i p v r → LeastValue A E i (v + 1) r

@@ -1,6 +1,6 @@
 -- How many values stand behind a standing prefix, and so how many arrays stand: over one letter 1, over two 2 ^ (n - 1), and never more than n!. Assumes nothing.
 use mathlib.Core.Path.{_≡_, refl, sym, ap, subst, _∙_}
-use mathlib.Core.Bool.{Bool, true, not}
+use mathlib.Core.Bool.{not}
 use mathlib.Core.Logic.{_⊎_, inl, inr}
 use mathlib.Core.List.{List, [], _∷_}
 use Prim.Native.Nat.{ℕ, zero, suc, _+_, _^_, _≤_, _<_}
@@ -10,7 +10,7 @@ use lib.ListN.{length}
 use borrow.Author.Tests.{eq-eqb, ne-eqb, ltb-true, ltb-false}
 use Rattle.words.specs.Lists.{keep, run, at}
 use Rattle.words.specs.Numbers.{DONE}
-use Rattle.words.specs.Stand.{Stands, opens, weighed}
+use Rattle.words.specs.Stand.{opens, weighed}
 use Rattle.words.specs.Listing.{values, standing, countFrom, count}
 use Rattle.words.proofs.Lists.{which, either, In, here, there, In-nil, In-cons, In-here, keep-in, Falls, keep-falls}
 use Rattle.words.specs.Rows.{Small}
@@ -150,9 +150,9 @@ pub no-places : (A : ℕ) → count A 0 ≡ 1
 unfolding count countFrom
 no-places A = refl
 
-pub at-most : (A n : ℕ) → count A n ≤ spans 0 n
+pub at-most-factorial : (A n : ℕ) → count A n ≤ spans 0 n
 unfolding count
-at-most A n = count-most (standing A) n []
+at-most-factorial A n = count-most (standing A) n []
 
 pub count-small : (A n : ℕ) → n ≤ 20 → count A n < 2 ^ 64
 unfolding count

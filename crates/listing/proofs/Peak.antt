@@ -15,7 +15,7 @@ use Rattle.words.specs.Stand.{Stands, weighed, numberAt}
 use Rattle.words.specs.Listing.{more, standing, listing, count, StandsAt, StandsAfter, First, Next, head, behind}
 use Rattle.words.proofs.Lists.{either}
 use Rattle.words.proofs.Rows.{alike-take}
-use Rattle.arrays.specs.Steps.{Passes, Sound}
+use Rattle.arrays.specs.Steps.{Passes}
 use Rattle.arrays.proofs.Rules.{possible-range, weighed-first, weighed-done, passes-sound, passes-part, sound-small, top-stands}
 use Rattle.arrays.proofs.Alike.{weighed-alike}
 use Rattle.arrays.proofs.Judging.{passes-none, passes-more}

@@ -1,35 +1,33 @@
 -- Stepping in the code's terms: the least value at a place, the least values behind a prefix, the step to the next array. Assumes nothing.
 use mathlib.Core.Path.{_≡_, refl, sym, ap, subst, _∙_}
 use mathlib.Core.Bool.{Bool, true, false}
-use mathlib.Core.List.{List, []}
+use mathlib.Core.List.{List}
 use Prim.Native.Nat.{ℕ, zero, suc, _+_, _-_, _≤_, _<_}
 use native.Mathlib.Omega.{arith}
 use native.Mathlib.Numerals.{add-one, sub-one}
 use lib.Dec.{ltb, eqb}
-use lib.ListN.{length, getD, take, set}
+use lib.ListN.{length, getD, take}
 use lib.Seq.{take-take, take-set-le}
-use borrow.Author.Tests.{ltb-true, lt-ltb, le-ltb, eqb-true, eq-eqb, ne-eqb}
+use borrow.Author.Tests.{ltb-true, lt-ltb, le-ltb, eqb-true}
 use Rattle.words.specs.Lists.{both, at, placed}
 use Rattle.words.specs.Rows.{Alike}
 use Rattle.words.specs.Numbers.{DONE, limit}
-use Rattle.words.specs.Stand.{Stands, opens, weighed, verdict}
-use Rattle.words.specs.Least.{Least}
+use Rattle.words.specs.Stand.{Stands, weighed, verdict}
 use Rattle.words.specs.Listing.{First, Next, StandsAfter}
-use Rattle.words.proofs.Lists.{either, same?, not-both, both-true, both-left, both-right, both-out, index-at, placed-long, placed-same, placed-other}
+use Rattle.words.proofs.Lists.{either, same?, not-both, both-left, both-out, placed-long, placed-same, placed-other}
 use Rattle.words.proofs.Rows.{alike-take, alike-sym}
 use Rattle.arrays.specs.Steps.{Passes, Sound}
 use Rattle.arrays.proofs.Rules.{weighed-first, passes-sound, passes-part, sound-small, sound-part}
 use Rattle.arrays.proofs.Alike.{weighed-alike}
-use Rattle.arrays.proofs.Judging.{passes-none}
 use Rattle.arrays.proofs.Places.{verdict-passes}
 use Rattle.arrays.proofs.Theorem.{stands-passes, passes-stands}
 use Rattle.listing.specs.Sets.{Parts, Sized, Lowest, Highest}
-use Rattle.listing.specs.Values.{peak, Looks, Lower, LeastValue, repeated, Lows, Filled, Highs, Turned, Raised, Stepped, stepped, ended}
+use Rattle.listing.specs.Values.{peak, Seeks, Lower, LeastValue, repeated, Lows, Filled, Highs, Turned, Raised, Stepped, stepped, ended}
 use Rattle.listing.proofs.Steps.{first-steps, last-steps, next-steps}
 use Rattle.listing.proofs.Standing.{least-first, least-next, after-stands}
 use Rattle.listing.proofs.Peak.{peak-low, peak-stands, peak-most}
 use Rattle.listing.proofs.Few.{only-peak}
-use Rattle.listing.proofs.Counting.{rung-top, placed-weighed, placed-passes}
+use Rattle.listing.proofs.Counting.{peak-possible, placed-weighed, placed-passes}
 use Rattle.listing.proofs.Covers.{lower-least}
 
 -- `repeats`
@@ -38,13 +36,9 @@ module _ (E : ℕ → ℕ) (i k : ℕ) where
   unfolding repeated
   repeats-near h = sym (both-left (ltb (i + 1) k) (eqb (E (k - 1)) (E k)) (le-ltb (i + 1) k h))
 
-  pub repeats-yes : (x y : ℕ) → i + 1 < k → x ≡ E (k - 1) → y ≡ E k → x ≡ y → true ≡ repeated E i k
-  unfolding repeated
-  repeats-yes x y h p q e = sym (both-true (ltb (i + 1) k) (eqb (E (k - 1)) (E k)) (lt-ltb (i + 1) k h) (eq-eqb _ _ (sym p ∙ e ∙ q)))
-
-  pub repeats-no : (x y : ℕ) → x ≡ E (k - 1) → y ≡ E k → (x ≡ y → ⊥) → false ≡ repeated E i k
-  unfolding repeated
-  repeats-no x y p q d = sym (both-right (ltb (i + 1) k) (eqb (E (k - 1)) (E k)) (ne-eqb _ _ (λ e. d (p ∙ e ∙ sym q))))
+  pub repeats-far : (x y : ℕ) → i + 1 < k → x ≡ E (k - 1) → y ≡ E k → eqb x y ≡ repeated E i k
+  unfolding repeated both
+  repeats-far x y h p q = rw (lt-ltb (i + 1) k h, p, q)
 
 -- what stands behind a place depends on its echo
 same-echo : (A : ℕ) (E : ℕ → ℕ) (c m : ℕ) → E (suc c) ≡ E (suc (suc c)) → weighed A E (suc (suc c)) m ≡ weighed A E (suc c) m
@@ -82,9 +76,6 @@ module _ (A : ℕ) (E : ℕ → ℕ) (i k : ℕ) (lows : Lows A E i k) where
         least = λ m g h. rw e (w .least (suc c) (omega arith) (omega arith) m (sym (same-echo A E c m s) ∙ h));
       }
 
-  pub seek-zero : (w : ℕ) → w ≡ weighed A E k 0 → w ≡ DONE → LeastValue A E k 0 0
-  seek-zero w is z = record { from = omega arith; stands = sym is ∙ z; least = λ m l g. omega arith }
-
   module _ (w p : ℕ) (is : w ≡ weighed A E k 0) (full : w ≡ DONE → ⊥) (top : p ≡ peak E k) where
     later : 0 < k
     later = either (same? k 0) (λ z. absurd (full (is ∙ rw z (weighed-first A E 0 refl)))) (λ d. omega arith)
@@ -97,8 +88,8 @@ module _ (A : ℕ) (E : ℕ → ℕ) (i k : ℕ) (lows : Lows A E i k) where
         go zero l = absurd (omega arith)
         go (suc k) l = omega arith
 
-    pub seek-looks : Looks E k p 0
-    seek-looks = record { later = later; sound = seek-sound; rung = rw top (rung-top (lows .passes)); low = above }
+    pub seek-asks : Seeks E k p 0
+    seek-asks = record { later = later; sound = seek-sound; value = rw top (peak-possible (lows .passes)); low = above }
 
     pub seek-open : (r : ℕ) → Lower E k p 0 r → LeastValue A E k 0 r
     seek-open r lower = let v = lower-least A E k p 0 r (lows .passes) later top lower in record {
@@ -186,8 +177,8 @@ module _ (A : ℕ) (e : List ℕ) (k m p : ℕ) (is : m ≡ at e (k + 1)) (passe
   unfolding peak
   not-first = either (same? k 0) (λ z. absurd (omega (arith, rw z at grows))) (λ d. omega arith)
 
-  pub raise-looks : Looks (at e) k p m
-  raise-looks = record { later = not-first; sound = passes-sound passes; rung = rw top (rung-top passes); low = omega arith }
+  pub raise-asks : Seeks (at e) k p m
+  raise-asks = record { later = not-first; sound = passes-sound passes; value = rw top (peak-possible passes); low = omega arith }
 
   module _ (v : ℕ) (lower : Lower (at e) k p m v) where
     value : LeastValue A (at e) k (m + 1) v

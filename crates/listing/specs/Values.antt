@@ -11,7 +11,7 @@ use Rattle.words.specs.Numbers.{DONE}
 use Rattle.words.specs.Stand.{possible, weight, weighed}
 use Rattle.words.specs.Listing.{more, countFrom, Next, StandsAfter}
 use Rattle.words.proofs.Lists.{In}
-use Rattle.arrays.specs.Steps.{Passes, Sound}
+use Rattle.arrays.specs.Steps.{Passes, Sound, Possible}
 
 -- the greatest value behind the first n places: zero at the first place, and behind it one more than the echo before
 unfoldable pub peak : (ℕ → ℕ) → ℕ → ℕ
@@ -23,29 +23,24 @@ unfoldable pub tried : (List ℕ → ℕ → Bool) → ℕ → List ℕ → ℕ 
 tried ok r p zero = cond (ok p 0) (countFrom ok r (more p 0)) 0
 tried ok r p (suc k) = tried ok r p k + cond (ok p (suc k)) (countFrom ok r (more p (suc k))) 0
 
--- m is zero, or possible behind the first i places
-pub data Rung (E : ℕ → ℕ) (i m : ℕ) : Type 0 where
-  ground : m ≡ 0 → Rung E i m
-  step : 0 < i → In m (possible E (E i)) → Rung E i m
-
 -- what trying the value m behind the first i places of e asks, in counting arrays of n places
 pub record Tries (A : ℕ) (e : List ℕ) (i n m : ℕ) : Type 0 where
   pub within : i < n
   pub most : n ≤ 20
   pub long : length e ≡ 20
   pub passes : Passes A (at e) i
-  pub rung : Rung (at e) i m
+  pub value : Possible (at e) i m
 
 -- the open value that the possible value p is, or is hidden behind, where the echo of the place before is b: up the chain from p, each possible value
 -- whose echo is what has been reached takes its place
 unfoldable pub cover : (ℕ → ℕ) → ℕ → ℕ → ℕ
 cover E p b = down E p (λ k t. cond (eqb (suc k) p) p (cond (eqb (E (suc k)) t) (suc k) t)) b
 
--- what looking for the least open value above v asks, among the possible values up to p behind the first i places
-pub record Looks (E : ℕ → ℕ) (i p v : ℕ) : Type 0 where
+-- what seeking the least open value above v asks, among the possible values up to p behind the first i places
+pub record Seeks (E : ℕ → ℕ) (i p v : ℕ) : Type 0 where
   pub later : 0 < i
   pub sound : Sound E i
-  pub rung : Rung E i p
+  pub value : Possible E i p
   pub low : v < peak E i
 
 -- r is open and above v, and of the possible values above v none up to p has a lower cover

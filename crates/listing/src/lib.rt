@@ -14,7 +14,7 @@ ghost use Rattle.words.proofs.Lists.{In};
 ghost use Rattle.words.specs.Listing.{countFrom, standing, count as countOf, First};
 ghost use Rattle.arrays.specs.Steps.{Passes, Sound};
 ghost use Rattle.listing.specs.Published.{published as publishedCounts};
-ghost use Rattle.listing.specs.Values.{peak, tried, Tries, cover as coverOf, Looks, Lower, LeastValue, repeated, Lows, Filled, Turned, Raised, Stepped};
+ghost use Rattle.listing.specs.Values.{peak, tried, Tries, cover as coverOf, Seeks, Lower, LeastValue, repeated, Lows, Filled, Turned, Raised, Stepped};
 
 // The counts over 26 letters for n = 1..10, as they were published.
 const PUBLISHED: [u64; 10] = [1, 2, 4, 9, 20, 47, 110, 263, 630, 1525];
@@ -122,7 +122,7 @@ fn cover(e: &[u16], b: usize, p: usize) -> usize
 // The least open value above v behind the first i places, of the possible values from p down. A value whose echo is above v too is passed over, since
 // that echo has the same cover: so `cover` walks once for each letter.
 fn least_open(e: &[u16], i: usize, p: usize, v: usize) -> usize
-    requires { ⌜ (i ≤ length (now e)) × Looks (at (now e)) i p v ⌝ }
+    requires { ⌜ (i ≤ length (now e)) × Seeks (at (now e)) i p v ⌝ }
     ensures { λ r. ⌜ Lower (at (now (e .entry))) i p v r ⌝ }
 {
     if p <= v {
@@ -141,11 +141,8 @@ fn repeats(e: &[u16], i: usize, k: usize) -> bool
     requires { ⌜ (i < length (now e)) × (k ≤ length (now e)) ⌝ }
     ensures { λ r. ⌜ r ≡ repeated (at (now (e .entry))) i k ⌝ }
 {
-    if k <= i + 1 {
-        return false;
-    }
-    if echo_at(e, k - 1) == echo_at(e, k) {
-        true
+    if i + 1 < k {
+        echo_at(e, k - 1) == echo_at(e, k)
     } else {
         false
     }
@@ -215,8 +212,9 @@ fn raise(a: usize, e: &mut [u16], k: usize)
     fill(a, e, k + 1)
 }
 
-// Steps from the array e, which stands, to the next of its length, and says whether there is one. Each part is linear: the last place that can rise is
-// found once, the walks for its value are one for each letter, and behind it the echoes fall, or stay and repeat, so that their walks are shorter.
+// Steps from the array e, which stands, to the next of its length, and says whether there is one. The time is linear, up to the letters: `turn` reads each
+// place once; the place that rises walks its chain once for each letter. Behind it, over more than one letter, a place whose zero is full gets at most one
+// more than the echo of the echo before it, so the echoes fall along a chain, or stay and repeat; and behind a zero all are zero.
 pub fn next(a: usize, e: &mut [u16]) -> bool
     requires { ⌜ (0 < a) × (length (now e) ≤ limit) × (verdict a (now e) ≡ (done, 0)) ⌝ }
     ensures { λ r. ⌜ Stepped a (now (e .entry)) (now (e .exit)) r ⌝ }

@@ -1,6 +1,6 @@
 -- `least_open`: each possible value is above the next. Assumes nothing.
 use borrow.Author.Needs.{needs}
-use Rattle.listing.proofs.Covers.{look-none, look-within, look-below, look-less, look-in, look-sound, look-possible, look-falls, look-next, look-far, look-lower, look-kept}
+use Rattle.listing.proofs.Covers.{lower-none, lower-within, lower-below, lower-less, lower-in, lower-sound, lower-possible, lower-falls, lower-next, lower-far, lower-this, lower-kept}
 use Prim.Native.Nat.{ℕ, _<_}
 use borrow.Fn.Kinds.{In}
 use borrow.Fn.PlainCycle.{Measures, is, falls, and}
@@ -31,34 +31,34 @@ least-open-peak-at-requires : (t : ℕ) → least-open-lts.Need-peak-at-requires
 least-open-peak-at-requires t c κs = search needs
 
 least-open-returns : (t : ℕ) → least-open-lts.Need-returns (least-open-claims t) (least-open-at t) least-open.Post
-least-open-returns t c = search (needs, look-none)
+least-open-returns t c = search (needs, lower-none)
 
 least-open-sub-peak-at : (t : ℕ) → least-open-lts.Need-sub-peak-at (least-open-claims t) (least-open-at t) least-open.Post
 least-open-sub-peak-at t c = search needs
 
 least-open-peak-at-requires-2 : (t : ℕ) → least-open-lts.Need-peak-at-requires-2 (least-open-claims t) (least-open-at t) least-open.Post
-least-open-peak-at-requires-2 t c κs = (search (needs, look-below), search (needs, look-less))
+least-open-peak-at-requires-2 t c κs = (search (needs, lower-below), search (needs, lower-less))
 
 least-open-least-open-requires : (t : ℕ) → least-open-lts.Need-least-open-requires (least-open-claims t) (least-open-at t) least-open.Post
-least-open-least-open-requires t c κs = (search (needs, look-falls), (search needs, search (needs, look-next)))
+least-open-least-open-requires t c κs = (search (needs, lower-falls), (search needs, search (needs, lower-next)))
 
 least-open-echo-at-requires : (t : ℕ) → least-open-lts.Need-echo-at-requires (least-open-claims t) (least-open-at t) least-open.Post
-least-open-echo-at-requires t c κs = (search needs, search (needs, look-within))
+least-open-echo-at-requires t c κs = (search needs, search (needs, lower-within))
 
 least-open-returns-2 : (t : ℕ) → least-open-lts.Need-returns-2 (least-open-claims t) (least-open-at t) least-open.Post
-least-open-returns-2 t c = search (needs, look-far)
+least-open-returns-2 t c = search (needs, lower-far)
 
 least-open-echo-at-requires-2 : (t : ℕ) → least-open-lts.Need-echo-at-requires-2 (least-open-claims t) (least-open-at t) least-open.Post
 least-open-echo-at-requires-2 t c κs = search needs
 
 least-open-cover-requires : (t : ℕ) → least-open-lts.Need-cover-requires (least-open-claims t) (least-open-at t) least-open.Post
-least-open-cover-requires t c κs = (search (needs, look-in), search (needs, look-sound), search (needs, look-possible))
+least-open-cover-requires t c κs = (search (needs, lower-in), search (needs, lower-sound), search (needs, lower-possible))
 
 least-open-returns-3 : (t : ℕ) → least-open-lts.Need-returns-3 (least-open-claims t) (least-open-at t) least-open.Post
-least-open-returns-3 t c = search (needs, look-lower)
+least-open-returns-3 t c = search (needs, lower-this)
 
 least-open-returns-4 : (t : ℕ) → least-open-lts.Need-returns-4 (least-open-claims t) (least-open-at t) least-open.Post
-least-open-returns-4 t c = search (needs, look-kept)
+least-open-returns-4 t c = search (needs, lower-kept)
 
 pub +least-open-spec : {M : Type 1} → statement M
 +least-open-spec = close μ-least-open λ t. least-open-lts.spec (least-open-claims t)

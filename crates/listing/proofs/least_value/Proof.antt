@@ -1,6 +1,6 @@
 -- `least_value`: one lemma of `Stepping` for each way out. Assumes nothing.
 use borrow.Author.Needs.{needs}
-use Rattle.listing.proofs.Stepping.{seek-one, seek-place, seek-again, seek-zero, seek-looks, seek-open}
+use Rattle.listing.proofs.Stepping.{seek-one, seek-place, seek-again, seek-asks, seek-open}
 use Rattle.listing.proofs.least_value.Statement.{statement}
 use Rattle.listing.proofs.least_value.Tie as tie
 
@@ -29,7 +29,7 @@ peak-at-requires-2 : tie.Need-peak-at-requires-2
 peak-at-requires-2 c κs = search needs
 
 least-open-requires : tie.Need-least-open-requires
-least-open-requires c κs = (search needs, search (needs, seek-looks))
+least-open-requires c κs = (search needs, search (needs, seek-asks))
 
 returns-4 : tie.Need-returns-4
 returns-4 c = search (needs, seek-open)

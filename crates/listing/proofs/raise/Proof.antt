@@ -1,6 +1,6 @@
 -- `raise`: one lemma of `Stepping` for each step. Assumes nothing.
 use borrow.Author.Needs.{needs}
-use Rattle.listing.proofs.Stepping.{raise-looks, raise-small, raise-passes, raise-done}
+use Rattle.listing.proofs.Stepping.{raise-asks, raise-small, raise-passes, raise-done}
 use Rattle.listing.proofs.raise.Statement.{statement}
 use Rattle.listing.proofs.raise.Tie as tie
 
@@ -14,7 +14,7 @@ echo-at-requires : tie.Need-echo-at-requires
 echo-at-requires c κs = search needs
 
 least-open-requires : tie.Need-least-open-requires
-least-open-requires c κs = (search needs, search (needs, raise-looks))
+least-open-requires c κs = (search needs, search (needs, raise-asks))
 
 add-put-echo : tie.Need-add-put-echo
 add-put-echo c = search needs
