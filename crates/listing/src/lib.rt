@@ -36,11 +36,11 @@ fn peak_at(e: &[u16], i: usize) -> usize
 }
 
 // e with the value m behind its first i places.
-fn with_value(e: [u16; 20], i: usize, m: usize) -> [u16; 20]
-    requires { ⌜ (i < 20) × (m < 65536) × (length e ≡ 20) ⌝ }
-    ensures { λ r. ⌜ (r ≡ placed e (i + 1) m) × (length r ≡ 20) ⌝ }
+fn with_value(e: &[u16; 20], i: usize, m: usize) -> [u16; 20]
+    requires { ⌜ (i < 20) × (m < 65536) × (length (now e) ≡ 20) ⌝ }
+    ensures { λ r. ⌜ (r ≡ placed (now (e .entry)) (i + 1) m) × (length r ≡ 20) ⌝ }
 {
-    let mut f = e;
+    let mut f = *e;
     put_echo(&mut f, i + 1, m);
     f
 }
@@ -64,35 +64,37 @@ fn count_values(a: usize, e: &[u16], i: usize) -> u64
 }
 
 // How many standing arrays of n places over a letters begin with the first i places of e, which stand.
-fn count_prefix(a: usize, e: [u16; 20], i: usize, n: usize) -> u64
-    requires { ⌜ (i ≤ n) × (n ≤ 20) × (length e ≡ 20) × Passes a (at e) i ⌝ }
-    ensures { λ r. ⌜ r ≡ countFrom (standing a) (n - i) (take i e) ⌝ }
+fn count_prefix(a: usize, e: &[u16; 20], i: usize, n: usize) -> u64
+    requires { ⌜ (i ≤ n) × (n ≤ 20) × (length (now e) ≡ 20) × Passes a (at (now e)) i ⌝ }
+    ensures { λ r. ⌜ r ≡ countFrom (standing a) (n - i) (take i (now (e .entry))) ⌝ }
 {
     if i == n {
         1
     } else if i + 1 == n {
-        count_values(a, &e, i)
+        count_values(a, e, i)
     } else {
-        try_values(a, e, i, n, peak_at(&e, i))
+        try_values(a, e, i, n, peak_at(e, i))
     }
 }
 
 // The same over the possible values at place i + 1 from m down the chain to zero.
-fn try_values(a: usize, e: [u16; 20], i: usize, n: usize, m: usize) -> u64
-    requires { ⌜ Tries a e i n m ⌝ }
-    ensures { λ r. ⌜ r ≡ tried (standing a) (n - (i + 1)) (take i e) m ⌝ }
+fn try_values(a: usize, e: &[u16; 20], i: usize, n: usize, m: usize) -> u64
+    requires { ⌜ Tries a (now e) i n m ⌝ }
+    ensures { λ r. ⌜ r ≡ tried (standing a) (n - (i + 1)) (take i (now (e .entry))) m ⌝ }
 {
-    let w = number_of(a, &e, i, m);
+    let w = number_of(a, e, i, m);
     if m == 0 {
         if w == DONE {
-            count_prefix(a, with_value(e, i, m), i + 1, n)
+            let f = with_value(e, i, m);
+            count_prefix(a, &f, i + 1, n)
         } else {
             0
         }
     } else {
-        let rest = try_values(a, e, i, n, peak_at(&e, m - 1));
+        let rest = try_values(a, e, i, n, peak_at(e, m - 1));
         if w == DONE {
-            rest + count_prefix(a, with_value(e, i, m), i + 1, n)
+            let f = with_value(e, i, m);
+            rest + count_prefix(a, &f, i + 1, n)
         } else {
             rest
         }
@@ -104,7 +106,8 @@ pub fn count(a: usize, n: usize) -> u64
     requires { ⌜ n ≤ 20 ⌝ }
     ensures { λ r. ⌜ r ≡ countOf a n ⌝ }
 {
-    count_prefix(a, [0; 20], 0, n)
+    let e = [0u16; 20];
+    count_prefix(a, &e, 0, n)
 }
 
 // The open value that the possible value p is, or is hidden behind, where the echo of the place before is b: a walk along the chain, and up again.

@@ -18,31 +18,31 @@ use Rattle.listing.proofs.with_value.Reads as with-value-reads
 use Rattle.listing.proofs.+count_prefix+try_values.{statement}
 use Rattle.listing.proofs.+count_prefix+try_values.Tie.{close}
 
-abbrev μ-count-prefix : Measures 0 count-prefix-kinds.ps ℕ
+abbrev μ-count-prefix : Measures 1 count-prefix-kinds.ps ℕ
 μ-count-prefix κs a = (a .1 .1 .1 .0 - a .1 .1 .0) * 32 + 31
 
-abbrev μ-try-values : Measures 0 try-values-kinds.ps ℕ
+abbrev μ-try-values : Measures 1 try-values-kinds.ps ℕ
 μ-try-values κs a = (a .1 .1 .1 .0 - a .1 .1 .0) * 32 + a .1 .1 .1 .1 .0
 
-abbrev count-prefix-at : ℕ → In 0 count-prefix-kinds.ps
+abbrev count-prefix-at : ℕ → In 1 count-prefix-kinds.ps
 count-prefix-at t =
-    and 0 count-prefix-kinds.ps (is 0 count-prefix-kinds.ps μ-count-prefix t) count-prefix.Pre
+    and 1 count-prefix-kinds.ps (is 1 count-prefix-kinds.ps μ-count-prefix t) count-prefix.Pre
 
-abbrev count-prefix-below : ℕ → In 0 count-prefix-kinds.ps
+abbrev count-prefix-below : ℕ → In 1 count-prefix-kinds.ps
 count-prefix-below t =
     and
-    0
+    1
     count-prefix-kinds.ps
-    (falls 0 count-prefix-kinds.ps _<_ μ-count-prefix t)
+    (falls 1 count-prefix-kinds.ps _<_ μ-count-prefix t)
     count-prefix.Pre
 
-abbrev try-values-at : ℕ → In 0 try-values-kinds.ps
+abbrev try-values-at : ℕ → In 1 try-values-kinds.ps
 try-values-at t =
-    and 0 try-values-kinds.ps (is 0 try-values-kinds.ps μ-try-values t) try-values.Pre
+    and 1 try-values-kinds.ps (is 1 try-values-kinds.ps μ-try-values t) try-values.Pre
 
-abbrev try-values-below : ℕ → In 0 try-values-kinds.ps
+abbrev try-values-below : ℕ → In 1 try-values-kinds.ps
 try-values-below t =
-    and 0 try-values-kinds.ps (falls 0 try-values-kinds.ps _<_ μ-try-values t) try-values.Pre
+    and 1 try-values-kinds.ps (falls 1 try-values-kinds.ps _<_ μ-try-values t) try-values.Pre
 
 abbrev try-values-claims : ℕ → try-values-lts.Claims
 try-values-claims t = (number-of-reads.Asked, number-of-reads.Learnt, with-value-reads.Asked, with-value-reads.Learnt, count-prefix-below t, count-prefix.Post, peak-at-reads.Asked, peak-at-reads.Learnt, try-values-below t, try-values.Post)
@@ -53,15 +53,8 @@ count-prefix-claims t = (count-values-reads.Asked, count-values-reads.Learnt, pe
 count-prefix-add-if2 : (t : ℕ) → count-prefix-lts.Need-add-if2 (count-prefix-claims t) (count-prefix-at t) count-prefix.Post
 count-prefix-add-if2 t c = search needs
 
-count-prefix-slice-aggregate-count-values :
-    (t : ℕ) → count-prefix-lts.Need-slice-aggregate-count-values (count-prefix-claims t) (count-prefix-at t) count-prefix.Post
-count-prefix-slice-aggregate-count-values t c = search needs
-
 count-prefix-count-values-requires : (t : ℕ) → count-prefix-lts.Need-count-values-requires (count-prefix-claims t) (count-prefix-at t) count-prefix.Post
 count-prefix-count-values-requires t c κs = search needs
-
-count-prefix-slice-aggregate-peak-at : (t : ℕ) → count-prefix-lts.Need-slice-aggregate-peak-at (count-prefix-claims t) (count-prefix-at t) count-prefix.Post
-count-prefix-slice-aggregate-peak-at t c = search needs
 
 count-prefix-peak-at-requires : (t : ℕ) → count-prefix-lts.Need-peak-at-requires (count-prefix-claims t) (count-prefix-at t) count-prefix.Post
 count-prefix-peak-at-requires t c κs = (search needs, search (needs, passes-sound))
@@ -78,9 +71,6 @@ count-prefix-returns-2 t c = search (needs, count-near)
 count-prefix-returns-3 : (t : ℕ) → count-prefix-lts.Need-returns-3 (count-prefix-claims t) (count-prefix-at t) count-prefix.Post
 count-prefix-returns-3 t c = search (needs, count-open)
 
-try-values-slice-aggregate-number-of : (t : ℕ) → try-values-lts.Need-slice-aggregate-number-of (try-values-claims t) (try-values-at t) try-values.Post
-try-values-slice-aggregate-number-of t c = search needs
-
 try-values-number-of-requires : (t : ℕ) → try-values-lts.Need-number-of-requires (try-values-claims t) (try-values-at t) try-values.Post
 try-values-number-of-requires t c κs = search needs
 
@@ -92,9 +82,6 @@ try-values-add-count-prefix t c = search needs
 
 try-values-count-prefix-requires : (t : ℕ) → try-values-lts.Need-count-prefix-requires (try-values-claims t) (try-values-at t) try-values.Post
 try-values-count-prefix-requires t c κs = (search needs, (search needs, search needs, search needs, search (needs, tried-passes)))
-
-try-values-slice-aggregate-peak-at : (t : ℕ) → try-values-lts.Need-slice-aggregate-peak-at (try-values-claims t) (try-values-at t) try-values.Post
-try-values-slice-aggregate-peak-at t c = search needs
 
 try-values-sub-peak-at : (t : ℕ) → try-values-lts.Need-sub-peak-at (try-values-claims t) (try-values-at t) try-values.Post
 try-values-sub-peak-at t c = search needs
@@ -134,9 +121,7 @@ pub +count-prefix+try-values-spec : {M : Type 1} → statement M
     (count-prefix-at t)
     count-prefix.Post
     (count-prefix-add-if2 t)
-    (count-prefix-slice-aggregate-count-values t)
     (count-prefix-count-values-requires t)
-    (count-prefix-slice-aggregate-peak-at t)
     (count-prefix-peak-at-requires t)
     (count-prefix-try-values-requires t)
     (count-prefix-returns t)
@@ -145,12 +130,10 @@ pub +count-prefix+try-values-spec : {M : Type 1} → statement M
     λ t. try-values-lts.spec (try-values-claims t)
     (try-values-at t)
     try-values.Post
-    (try-values-slice-aggregate-number-of t)
     (try-values-number-of-requires t)
     (try-values-with-value-requires t)
     (try-values-add-count-prefix t)
     (try-values-count-prefix-requires t)
-    (try-values-slice-aggregate-peak-at t)
     (try-values-sub-peak-at t)
     (try-values-peak-at-requires t)
     (try-values-try-values-requires t)
