@@ -209,7 +209,10 @@ module _ (A : ℕ) (e : List ℕ) (i n m : ℕ) (tries : Tries A e i n m) where
   within : i < length e
   within = omega (arith, tries .within, tries .most, tries .long)
 
-  pub tries-in : i < 20
+  pub tries-room : (k : ℕ) → k ≡ 20 → i + 1 ≤ k
+  tries-room k z = omega (arith, tries .within, tries .most)
+
+  tries-in : i < 20
   tries-in = omega (arith, tries .within, tries .most)
 
   pub tries-small : m < 65536

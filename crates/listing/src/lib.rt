@@ -35,16 +35,6 @@ fn peak_at(e: &[u16], i: usize) -> usize
     if i == 0 { 0 } else { echo_at(e, i) + 1 }
 }
 
-// e with the value m behind its first i places.
-fn with_value(e: &[u16; 20], i: usize, m: usize) -> [u16; 20]
-    requires { ⌜ (i < 20) × (m < 65536) × (length (now e) ≡ 20) ⌝ }
-    ensures { λ r. ⌜ (r ≡ placed (now (e .entry)) (i + 1) m) × (length r ≡ 20) ⌝ }
-{
-    let mut f = *e;
-    put_echo(&mut f, i + 1, m);
-    f
-}
-
 fn wide(x: usize) -> u64
     ensures { λ r. ⌜ r ≡ x ⌝ }
 {
@@ -85,7 +75,8 @@ fn try_values(a: usize, e: &[u16; 20], i: usize, n: usize, m: usize) -> u64
     let w = number_of(a, e, i, m);
     if m == 0 {
         if w == DONE {
-            let f = with_value(e, i, m);
+            let mut f = *e;
+            put_echo(&mut f, i + 1, m);
             count_prefix(a, &f, i + 1, n)
         } else {
             0
@@ -93,7 +84,8 @@ fn try_values(a: usize, e: &[u16; 20], i: usize, n: usize, m: usize) -> u64
     } else {
         let rest = try_values(a, e, i, n, peak_at(e, m - 1));
         if w == DONE {
-            let f = with_value(e, i, m);
+            let mut f = *e;
+            put_echo(&mut f, i + 1, m);
             rest + count_prefix(a, &f, i + 1, n)
         } else {
             rest

@@ -1,7 +1,7 @@
 -- The cycle of calls {count_prefix, try_values}: one lemma of `Counting` for each way out. What falls: the rest of the length, then the value. Assumes nothing.
 use borrow.Author.Needs.{needs}
 use Rattle.arrays.proofs.Rules.{passes-sound}
-use Rattle.listing.proofs.Counting.{count-full, count-near, count-open, open-falls, open-tries, tries-in, tries-small, tries-sound, tries-below, next-falls, next-tries, tried-passes, zero-yes, zero-no, more-yes, more-no, sum-fits}
+use Rattle.listing.proofs.Counting.{tries-room, count-full, count-near, count-open, open-falls, open-tries, tries-small, tries-sound, tries-below, next-falls, next-tries, tried-passes, zero-yes, zero-no, more-yes, more-no, sum-fits}
 use Prim.Native.Nat.{ℕ, _+_, _-_, _*_, _<_}
 use borrow.Fn.Kinds.{In}
 use borrow.Fn.PlainCycle.{Measures, is, falls, and}
@@ -14,7 +14,7 @@ use Rattle.listing.proofs.+count_prefix+try_values.Lts-try_values as tr
 use Rattle.arrays.proofs.number_of.Reads as number-of-reads
 use Rattle.listing.proofs.count_values.Reads as count-values-reads
 use Rattle.listing.proofs.peak_at.Reads as peak-at-reads
-use Rattle.listing.proofs.with_value.Reads as with-value-reads
+use Rattle.rows.proofs.put_echo.Reads as put-echo-reads
 use Rattle.listing.proofs.+count_prefix+try_values.{statement}
 use Rattle.listing.proofs.+count_prefix+try_values.Tie.{close}
 
@@ -45,7 +45,7 @@ try-values-below t =
     and 1 try-values-kinds.ps (falls 1 try-values-kinds.ps _<_ μ-try-values t) try-values.Pre
 
 abbrev try-values-claims : ℕ → try-values-lts.Claims
-try-values-claims t = (number-of-reads.Asked, number-of-reads.Learnt, with-value-reads.Asked, with-value-reads.Learnt, count-prefix-below t, count-prefix.Post, peak-at-reads.Asked, peak-at-reads.Learnt, try-values-below t, try-values.Post)
+try-values-claims t = (number-of-reads.Asked, number-of-reads.Learnt, put-echo-reads.Asked, put-echo-reads.Learnt, count-prefix-below t, count-prefix.Post, peak-at-reads.Asked, peak-at-reads.Learnt, try-values-below t, try-values.Post)
 
 abbrev count-prefix-claims : ℕ → count-prefix-lts.Claims
 count-prefix-claims t = (count-values-reads.Asked, count-values-reads.Learnt, peak-at-reads.Asked, peak-at-reads.Learnt, try-values-below t, try-values.Post)
@@ -74,8 +74,14 @@ count-prefix-returns-3 t c = search (needs, count-open)
 try-values-number-of-requires : (t : ℕ) → try-values-lts.Need-number-of-requires (try-values-claims t) (try-values-at t) try-values.Post
 try-values-number-of-requires t c κs = search needs
 
-try-values-with-value-requires : (t : ℕ) → try-values-lts.Need-with-value-requires (try-values-claims t) (try-values-at t) try-values.Post
-try-values-with-value-requires t c κs = (search (needs, tries-in), search (needs, tries-small), search needs)
+try-values-slice-aggregate-put-echo : (t : ℕ) → try-values-lts.Need-slice-aggregate-put-echo (try-values-claims t) (try-values-at t) try-values.Post
+try-values-slice-aggregate-put-echo t c = search needs
+
+try-values-add-put-echo : (t : ℕ) → try-values-lts.Need-add-put-echo (try-values-claims t) (try-values-at t) try-values.Post
+try-values-add-put-echo t c = search needs
+
+try-values-put-echo-requires : (t : ℕ) → try-values-lts.Need-put-echo-requires (try-values-claims t) (try-values-at t) try-values.Post
+try-values-put-echo-requires t c κs = (search needs, search (needs, tries-room), search (needs, tries-small))
 
 try-values-add-count-prefix : (t : ℕ) → try-values-lts.Need-add-count-prefix (try-values-claims t) (try-values-at t) try-values.Post
 try-values-add-count-prefix t c = search needs
@@ -92,8 +98,14 @@ try-values-peak-at-requires t c κs = (search (needs, tries-below), search (need
 try-values-try-values-requires : (t : ℕ) → try-values-lts.Need-try-values-requires (try-values-claims t) (try-values-at t) try-values.Post
 try-values-try-values-requires t c κs = (search (needs, next-falls), search (needs, next-tries))
 
-try-values-with-value-requires-2 : (t : ℕ) → try-values-lts.Need-with-value-requires-2 (try-values-claims t) (try-values-at t) try-values.Post
-try-values-with-value-requires-2 t c κs = (search (needs, tries-in), search (needs, tries-small), search needs)
+try-values-slice-aggregate-put-echo-2 : (t : ℕ) → try-values-lts.Need-slice-aggregate-put-echo-2 (try-values-claims t) (try-values-at t) try-values.Post
+try-values-slice-aggregate-put-echo-2 t c = search needs
+
+try-values-add-put-echo-2 : (t : ℕ) → try-values-lts.Need-add-put-echo-2 (try-values-claims t) (try-values-at t) try-values.Post
+try-values-add-put-echo-2 t c = search needs
+
+try-values-put-echo-requires-2 : (t : ℕ) → try-values-lts.Need-put-echo-requires-2 (try-values-claims t) (try-values-at t) try-values.Post
+try-values-put-echo-requires-2 t c κs = (search needs, search (needs, tries-room), search (needs, tries-small))
 
 try-values-add-count-prefix-2 : (t : ℕ) → try-values-lts.Need-add-count-prefix-2 (try-values-claims t) (try-values-at t) try-values.Post
 try-values-add-count-prefix-2 t c = search needs
@@ -131,13 +143,17 @@ pub +count-prefix+try-values-spec : {M : Type 1} → statement M
     (try-values-at t)
     try-values.Post
     (try-values-number-of-requires t)
-    (try-values-with-value-requires t)
+    (try-values-slice-aggregate-put-echo t)
+    (try-values-add-put-echo t)
+    (try-values-put-echo-requires t)
     (try-values-add-count-prefix t)
     (try-values-count-prefix-requires t)
     (try-values-sub-peak-at t)
     (try-values-peak-at-requires t)
     (try-values-try-values-requires t)
-    (try-values-with-value-requires-2 t)
+    (try-values-slice-aggregate-put-echo-2 t)
+    (try-values-add-put-echo-2 t)
+    (try-values-put-echo-requires-2 t)
     (try-values-add-count-prefix-2 t)
     (try-values-count-prefix-requires-2 t)
     (try-values-add-result t)
