@@ -1,10 +1,11 @@
 // The benchmark: the library's judge and count beside plain Rust for the same work, in one program. It prints a table of ratios and judges nothing.
 // The plain judge is figures 1 and 2 of "Verifying a Border Array in Linear Time" (Franek, Gao, Lu, Ryan, Smyth, Sun, Yang, 2000), and is handed its
 // echoes as numbers and its Boolean array ready; the library's side is timed through the C function, so decoding the bytes is in its time.
-// Each figure is the median of many runs in which the two sides take turns. Every buffer was written and read before the first run that counts.
-use std::time::Instant;
+// Each figure is the median of many runs in which the two sides take turns, in processor time, so that other programs on the machine disturb it less.
+// Every buffer was written and read before the first run that counts.
 
 extern "C" {
+    fn clock_gettime(clock: i32, time: *mut [i64; 2]) -> i32;
     fn claybobbin_judge(a: usize, n: usize, bytes: *const u8, length: usize) -> u64;
     fn claybobbin_count(a: usize, n: usize) -> u64;
 }
@@ -185,16 +186,18 @@ fn kinds(n: usize) -> Vec<Kind> {
     ]
 }
 
-// The values that break the array at its last place, one for each number: of those with a number the least, whose walk is the longest.
-fn breaks(k: &Kind) -> Vec<(u64, Vec<u16>)> {
+// The array broken at its last place, once for each number that can come there: by the least such value, whose walk is the longest.
+fn breaks(k: &Kind) -> Vec<Vec<u16>> {
     let n = k.echoes.len() - 1;
-    let mut found: Vec<(u64, Vec<u16>)> = Vec::new();
+    let mut numbers = Vec::new();
+    let mut found = Vec::new();
     for m in 0..=n {
         let mut y = k.echoes.clone();
         y[n] = m as u16;
-        let answer = judge(k.letters, &encode(&y));
-        if answer != 0 && found.iter().all(|f| f.0 != answer & 255) {
-            found.push((answer & 255, y));
+        let number = judge(k.letters, &encode(&y)) & 255;
+        if number != 0 && !numbers.contains(&number) {
+            numbers.push(number);
+            found.push(y);
         }
     }
     found
@@ -214,59 +217,69 @@ fn median(mut t: Vec<f64>) -> f64 {
     t[t.len() / 2]
 }
 
-// The medians of both sides in microseconds: the sides take turns, each turn as many calls as take about a tenth of a millisecond.
-fn turns(runs: usize, mut ours: impl FnMut(), mut plain: impl FnMut()) -> (f64, f64) {
-    let start = Instant::now();
-    plain();
-    plain();
-    let calls = (2e-4 / (start.elapsed().as_secs_f64() + 1e-9)) as usize + 1;
-    let mut times = (Vec::new(), Vec::new());
-    for _ in 0..runs + 3 {
-        let start = Instant::now();
-        (0..calls).for_each(|_| ours());
-        times.0.push(start.elapsed().as_secs_f64() * 1e6 / calls as f64);
-        let start = Instant::now();
-        (0..calls).for_each(|_| plain());
-        times.1.push(start.elapsed().as_secs_f64() * 1e6 / calls as f64);
-    }
-    (median(times.0.split_off(3)), median(times.1.split_off(3)))
+// The process's own time in microseconds: Linux's clock 2.
+fn now() -> f64 {
+    let mut time = [0i64; 2];
+    assert_eq!(unsafe { clock_gettime(2, &mut time) }, 0);
+    time[0] as f64 * 1e6 + time[1] as f64 / 1e3
 }
 
-fn compare(runs: usize, letters: usize, y: &[u16]) -> (f64, f64) {
+// The time of each of some calls.
+fn timed(calls: usize, mut call: impl FnMut()) -> f64 {
+    let start = now();
+    (0..calls).for_each(|_| call());
+    (now() - start) / calls as f64
+}
+
+// The median time of each side in microseconds: the sides take turns, each turn as many calls as take about a tenth of a millisecond.
+fn medians(runs: usize, sides: &mut [&mut dyn FnMut()]) -> Vec<f64> {
+    let calls: Vec<usize> = sides.iter_mut().map(|side| (100.0 / (timed(2, side) + 1e-3)) as usize + 1).collect();
+    let mut times = vec![Vec::new(); sides.len()];
+    for _ in 0..runs {
+        for (j, side) in sides.iter_mut().enumerate() {
+            times[j].push(timed(calls[j], side));
+        }
+    }
+    times.into_iter().map(median).collect()
+}
+
+fn compare(runs: usize, name: &str, letters: usize, y: &[u16]) {
     let n = y.len() - 1;
     let bytes = encode(y);
     let mut v = vec![false; n + 2];
     let answer = judge(letters, &bytes);
-    let first = if answer == 0 { n + 1 } else { (answer >> 8) as usize };
+    let (verdict, first) = if answer == 0 { ("stands".to_string(), n + 1) } else { (format!("{} at {}", answer & 255, answer >> 8), (answer >> 8) as usize) };
     assert_eq!(plain_judge(y, &mut v, letters), first, "the two sides disagree");
-    turns(runs, || used(judge(letters, &bytes)), || used(plain_judge(y, &mut v, opaque(letters))))
+    let t = medians(runs, &mut [&mut || used(judge(letters, &bytes)), &mut || used(plain_judge(y, &mut v, opaque(letters)))]);
+    println!("{:<21} A {:<4} {:<10} {:>9.2} {:>9.2} {:>6.2}", name, letters, verdict, t[0], t[1], t[0] / t[1]);
 }
 
 fn judging(runs: usize) {
     println!("{:<28} {:<10} {:>9} {:>9} {:>6}", "judge, 4,096 echoes", "", "ours us", "plain us", "ratio");
     for k in kinds(4096) {
-        let (ours, plain) = compare(runs, k.letters, &k.echoes);
-        println!("{:<21} A {:<4} {:<10} {:>9.2} {:>9.2} {:>6.2}", k.name, k.letters, "stands", ours, plain, ours / plain);
-        for (number, y) in breaks(&k) {
-            let (ours, plain) = compare(runs, k.letters, &y);
-            println!("{:<21} A {:<4} {} at 4,096 {:>9.2} {:>9.2} {:>6.2}", k.name, k.letters, number, ours, plain, ours / plain);
+        compare(runs, k.name, k.letters, &k.echoes);
+        for y in breaks(&k) {
+            compare(runs, k.name, k.letters, &y);
         }
     }
 }
 
 fn growth(runs: usize) {
     println!("\n{:<28} {:>9} {:>9} {:>9} {:>14}", "growth, ours us", "1,024", "2,048", "4,096", "4,096 / 2,048");
-    for j in 0..kinds(1024).len() {
-        let t: Vec<f64> = [1024, 2048, 4096].iter().map(|&n| { let k = &kinds(n)[j]; compare(runs, k.letters, &k.echoes).0 }).collect();
-        println!("{:<28} {:>9.2} {:>9.2} {:>9.2} {:>14.2}", kinds(1024)[j].name, t[0], t[1], t[2], t[2] / t[1]);
+    let bytes = |n: usize| -> Vec<Vec<u8>> { kinds(n).iter().map(|k| encode(&k.echoes)).collect() };
+    let (small, middle, large) = (bytes(1024), bytes(2048), bytes(4096));
+    for (j, k) in kinds(1024).iter().enumerate() {
+        let call = |bytes: &[u8]| used(judge(k.letters, bytes));
+        let t = medians(runs, &mut [&mut || call(&small[j]), &mut || call(&middle[j]), &mut || call(&large[j])]);
+        println!("{:<28} {:>9.2} {:>9.2} {:>9.2} {:>14.2}", k.name, t[0], t[1], t[2], t[2] / t[1]);
     }
 }
 
 fn counting(runs: usize) {
     let mut e = [0usize; 21];
     assert_eq!(count(26, 20) >> 2, plain_count(&mut e, 26, 0, 20));
-    let (ours, plain) = turns(runs / 10 + 1, || used(count(26, 20)), || used(plain_count(&mut e, opaque(26), 0, 20)));
-    println!("\ncount, A 26, n 20: ours {:.0} us, plain {:.0} us, ratio {:.2}", ours, plain, ours / plain);
+    let t = medians(runs / 5 + 1, &mut [&mut || used(count(26, 20)), &mut || used(plain_count(&mut e, opaque(26), 0, 20))]);
+    println!("\ncount, A 26, n 20: ours {:.0} us, plain {:.0} us, ratio {:.2}", t[0], t[1], t[0] / t[1]);
 }
 
 #[no_mangle]

@@ -6,5 +6,5 @@ cd "$(dirname "$0")/../.."
 sh host/build.sh loader check bench
 target/host/loader | diff - host/loader.expected
 echo "host: the loader says what it should"
-target/host/check ${HOST_CHECK:-}
+target/host/check "${HOST_CHECK:-}"
 target/host/bench 1 >/dev/null
