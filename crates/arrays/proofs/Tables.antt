@@ -1,10 +1,10 @@
 -- An array in a table: its first n entries. Judging over the table, and copying into it, in the code's terms. Assumes nothing.
-use mathlib.Core.Path.{_≡_, refl, sym, ap, subst, _∙_}
+use mathlib.Core.Path.{_≡_, refl, sym, ap, _∙_}
 use mathlib.Core.List.{List}
-use Prim.Native.Nat.{ℕ, zero, suc, _+_, _-_, _≤_, _<_}
+use Prim.Native.Nat.{ℕ, suc, _+_, _-_, _≤_, _<_}
 use native.Mathlib.Omega.{arith}
 use native.Mathlib.Numerals.{add-one}
-use lib.ListN.{length, take, getD}
+use lib.ListN.{length, take}
 use lib.Seq.{ext-getD, getD-take, length-take-le}
 use Rattle.words.specs.Lists.{firstOf, run, at, placed}
 use Rattle.words.specs.Rows.{Alike}

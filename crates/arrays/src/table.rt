@@ -8,7 +8,7 @@ use words::FULL;
 use words::HIDDEN;
 use words::IMPOSSIBLE;
 ghost use mathlib.Core.Path.{_≡_};
-ghost use Prim.Native.Nat.{ℕ, suc, _+_, _≤_, _<_};
+ghost use Prim.Native.Nat.{suc, _+_, _≤_, _<_};
 ghost use lib.ListN.{length, take};
 ghost use Rattle.words.specs.Lists.{at};
 ghost use Rattle.words.specs.Numbers.{limit};

@@ -1,10 +1,9 @@
 -- What the checks leave, and the packed answers. Assumes nothing.
-use mathlib.Core.Path.{_≡_, refl, sym, ap, subst, _∙_}
-use mathlib.Core.Bool.{Bool, true, false}
+use mathlib.Core.Path.{_≡_, refl, sym, ap, _∙_}
 use mathlib.Core.List.{List, [], _∷_}
 use Prim.Native.Nat.{ℕ, _+_, _*_, _≤_, _<_}
 use native.Mathlib.Omega.{arith}
-use lib.Dec.{leb, eqb}
+use lib.Dec.{leb}
 use lib.ListN.{length, take}
 use borrow.Author.Tests.{eq-eqb, ne-eqb}
 use Rattle.words.specs.Lists.{both, firstOf, places, run}
@@ -12,7 +11,7 @@ use Rattle.words.specs.Numbers.{DONE, LONG, MISMATCH, letters, limit, unless, a
 use Rattle.words.specs.Stand.{numberAt, firstBad, verdict}
 use Rattle.words.specs.Outcomes.{decoded, judge-outcome, host-judge-outcome}
 use Rattle.words.proofs.Lists.{which, either, same?}
-use Rattle.words.proofs.Checks.{long-done, long-over, matching-done, matching-not, refusal-stop, refusal-on, refusal-last, refusal-clear, sizes-clear, matching-clear}
+use Rattle.words.proofs.Checks.{long-done, long-over, matching-done, matching-not, refusal-stop, refusal-last, refusal-clear, sizes-clear, matching-clear}
 use Rattle.arrays.proofs.Places.{judged}
 use Rattle.corridor.proofs.Entries.{prefix-long}
 use Rattle.host.proofs.Decoding.{decoded-long}

@@ -1,6 +1,6 @@
 -- A packed answer is read back in one way: by remainder and quotient, as the readers of include/claybobbin.h do. Assumes nothing.
-use mathlib.Core.Path.{_≡_, refl, sym, ap, subst, _∙_}
-use mathlib.Core.Bool.{Bool, true, false}
+use mathlib.Core.Path.{_≡_, refl, ap}
+use mathlib.Core.Bool.{Bool}
 use mathlib.Core.Logic.{_⊎_, inl, inr}
 use mathlib.Core.List.{List, [], _∷_}
 use Prim.Native.Nat.{ℕ, suc, _+_, _*_, _%_, _/_, _≤_, _<_}
@@ -11,7 +11,7 @@ use lib.ListN.{length}
 use borrow.Author.Tests.{eq-eqb, ne-eqb}
 use Rattle.words.specs.Lists.{at}
 use Rattle.words.specs.Numbers.{DONE, IMPOSSIBLE, HIDDEN, FULL, LONG, limit, countLimit, unless, alphabet, long, matching, refusal, sizes}
-use Rattle.words.specs.Stand.{weighed, verdict}
+use Rattle.words.specs.Stand.{verdict}
 use Rattle.words.specs.Listing.{standing, count}
 use Rattle.words.specs.Outcomes.{decoded, given, counted, count-outcome, host-judge-outcome, host-count-outcome}
 use Rattle.words.proofs.Lists.{which, either, same?}

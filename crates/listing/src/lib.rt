@@ -7,7 +7,7 @@ use words::DONE;
 ghost use mathlib.Core.Path.{_≡_};
 ghost use Prim.Native.Nat.{suc, _+_, _-_, _≤_, _<_};
 ghost use lib.ListN.{length, take};
-ghost use Rattle.words.specs.Lists.{at, placed};
+ghost use Rattle.words.specs.Lists.{at};
 ghost use Rattle.words.specs.Numbers.{limit, DONE as done};
 ghost use Rattle.words.specs.Stand.{possible, verdict};
 ghost use Rattle.words.proofs.Lists.{In};
