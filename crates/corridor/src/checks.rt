@@ -15,7 +15,7 @@ ghost use mathlib.Core.List.{[], _∷_};
 ghost use lib.ListN.{length};
 
 // The number n at place p, or done where p is 0.
-pub fn named(n: u8, p: usize) -> Answer
+pub(crate) fn named(n: u8, p: usize) -> Answer
     ensures { λ r. ⌜ (r .number, r .place) ≡ namedOf n p ⌝ }
 {
     if p == 0 {
@@ -32,7 +32,7 @@ pub fn named(n: u8, p: usize) -> Answer
 }
 
 // 1: A outside 1..26.
-pub fn alphabet(a: usize) -> Answer
+pub(crate) fn alphabet(a: usize) -> Answer
     ensures { λ r. ⌜ (r .number, r .place) ≡ alphabetOf a ⌝ }
 {
     if a == 0 {
@@ -54,7 +54,7 @@ pub fn alphabet(a: usize) -> Answer
 }
 
 // 2: a length n over the limit.
-pub fn long(limit: usize, n: usize) -> Answer
+pub(crate) fn long(limit: usize, n: usize) -> Answer
     ensures { λ r. ⌜ (r .number, r .place) ≡ longOf limit n ⌝ }
 {
     if limit < n {
@@ -71,7 +71,7 @@ pub fn long(limit: usize, n: usize) -> Answer
 }
 
 // 3: a lent slice of m entries that must have n.
-pub fn matching(n: usize, m: usize) -> Answer
+pub(crate) fn matching(n: usize, m: usize) -> Answer
     ensures { λ r. ⌜ (r .number, r .place) ≡ matchingOf n m ⌝ }
 {
     if m == n {
@@ -114,14 +114,14 @@ fn outside(a: usize, row: &[u8]) -> usize
 }
 
 // 4: a card outside the alphabet, at its first place.
-pub fn cards(a: usize, row: &[u8]) -> Answer
+pub(crate) fn cards(a: usize, row: &[u8]) -> Answer
     ensures { λ r. ⌜ (r .number, r .place) ≡ cardsOf a (now (row .entry)) ⌝ }
 {
     named(CARD, outside(a, row))
 }
 
 // 1, then 2: the alphabet, and a length n of at most so many.
-pub fn sizes(a: usize, most: usize, n: usize) -> Answer
+pub(crate) fn sizes(a: usize, most: usize, n: usize) -> Answer
     ensures { λ r. ⌜ (r .number, r .place) ≡ refusal (alphabetOf a ∷ longOf most n ∷ []) ⌝ }
 {
     let r = alphabet(a);
@@ -132,7 +132,7 @@ pub fn sizes(a: usize, most: usize, n: usize) -> Answer
 }
 
 // 1, 2, then 3: and a lent slice of m entries that must have n.
-pub fn lent(a: usize, n: usize, m: usize) -> Answer
+pub(crate) fn lent(a: usize, n: usize, m: usize) -> Answer
     ensures { λ r. ⌜ (r .number, r .place) ≡ lentOf a n m ⌝ }
 {
     let r = sizes(a, LIMIT, n);
@@ -143,7 +143,7 @@ pub fn lent(a: usize, n: usize, m: usize) -> Answer
 }
 
 // 1, 2, then 4: a row.
-pub fn whole_row(a: usize, row: &[u8]) -> Answer
+pub(crate) fn whole_row(a: usize, row: &[u8]) -> Answer
     ensures { λ r. ⌜ (r .number, r .place) ≡ refusal (sizesOf a (length (now (row .entry))) ∷ cardsOf a (now (row .entry)) ∷ []) ⌝ }
 {
     let r = sizes(a, LIMIT, row.len());
@@ -154,7 +154,7 @@ pub fn whole_row(a: usize, row: &[u8]) -> Answer
 }
 
 // 1, 2, 3, then 4: a row beside a lent slice of m entries.
-pub fn row_and_slice(a: usize, row: &[u8], m: usize) -> Answer
+pub(crate) fn row_and_slice(a: usize, row: &[u8], m: usize) -> Answer
     ensures { λ r. ⌜ (r .number, r .place) ≡ refusal (lentOf a (length (now (row .entry))) m ∷ cardsOf a (now (row .entry)) ∷ []) ⌝ }
 {
     let r = lent(a, row.len(), m);
@@ -180,7 +180,7 @@ fn two_lengths(a: usize, n: usize, m: usize) -> Answer
 }
 
 // 1, 2, 3, then 4: the hidden row before the guess.
-pub fn two_rows(a: usize, hidden: &[u8], guess: &[u8]) -> Answer
+pub(crate) fn two_rows(a: usize, hidden: &[u8], guess: &[u8]) -> Answer
     ensures { λ r. ⌜ (r .number, r .place) ≡ pairedOf a (now (hidden .entry)) (now (guess .entry)) ⌝ }
 {
     let r = two_lengths(a, hidden.len(), guess.len());

@@ -9,7 +9,7 @@ ghost use Rattle.words.specs.Sheet.{sheet};
 ghost use Rattle.sheets.specs.Writing.{written};
 
 // The looks of a row within the limit.
-pub fn looks_within(row: &[u8]) -> usize
+pub(crate) fn looks_within(row: &[u8]) -> usize
     requires { ⌜ length (now row) ≤ limit ⌝ }
     ensures { λ r. ⌜ r ≡ looks (now (row .entry)) ⌝ }
 {
@@ -19,7 +19,7 @@ pub fn looks_within(row: &[u8]) -> usize
 }
 
 // The echo of the last place of a row within the limit that is not empty.
-pub fn last_within(row: &[u8]) -> usize
+pub(crate) fn last_within(row: &[u8]) -> usize
     requires { ⌜ (0 < length (now row)) × (length (now row) ≤ limit) ⌝ }
     ensures { λ r. ⌜ (r ≡ echo (card (now (row .entry))) (length (now (row .entry)))) × (r ≤ length (now (row .entry))) ⌝ }
 {
@@ -29,7 +29,7 @@ pub fn last_within(row: &[u8]) -> usize
 }
 
 // The overlap of two rows, the right one within the limit and not empty.
-pub fn overlap_within(left: &[u8], right: &[u8]) -> usize
+pub(crate) fn overlap_within(left: &[u8], right: &[u8]) -> usize
     requires { ⌜ (0 < length (now right)) × (length (now right) ≤ limit) ⌝ }
     ensures { λ r. ⌜ r ≡ overlap (card (now (left .entry))) (length (now (left .entry))) (card (now (right .entry))) (length (now (right .entry))) ⌝ }
 {
@@ -59,7 +59,7 @@ fn sheet_in(a: usize, row: &[u8], e: &mut [u16], r: &mut [u16], buf: &mut [u8]) 
 }
 
 // The sheet of a row within the limit, where the buffer has room for it.
-pub fn sheet_within(a: usize, row: &[u8], buf: &mut [u8]) -> sheets::Written
+pub(crate) fn sheet_within(a: usize, row: &[u8], buf: &mut [u8]) -> sheets::Written
     requires { ⌜ (a ≤ letters) × (length (now row) ≤ limit) ⌝ }
     ensures { λ s. ⌜ (s .number, s .length, now (buf .exit)) ≡ written (sheet a (now (row .entry))) (now (buf .entry)) ⌝ }
 {
@@ -95,7 +95,7 @@ fn difference_in(x: &[u8], y: &[u8], e: &mut [u16], f: &mut [u16]) -> usize
 }
 
 // The first place where the echoes of two rows of one length within the limit differ.
-pub fn difference_within(x: &[u8], y: &[u8]) -> usize
+pub(crate) fn difference_within(x: &[u8], y: &[u8]) -> usize
     requires { ⌜ (length (now y) ≡ length (now x)) × (length (now x) ≤ limit) × (length (now y) ≤ limit) ⌝ }
     ensures { λ r. ⌜ r ≡ differing (echoes (now (x .entry))) (echoes (now (y .entry))) ⌝ }
 {
