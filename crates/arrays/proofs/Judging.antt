@@ -13,7 +13,6 @@ use Rattle.words.specs.Stand.{opens, weight, weighed, numberAt, fails, firstBad
 use Rattle.words.proofs.Lists.{either, same?, first-start, first-more, first-here, first-none}
 use Rattle.arrays.specs.Steps.{Passes, Sound}
 use Rattle.arrays.proofs.Rules.{passes-sound, sound-part, sound-small, weighed-first, weighed-second, weighed-more, weighed-fits, weighed-full}
-use Rattle.arrays.proofs.Walks.{weigh-top, open-end}
 
 -- the value m behind the first i places
 module _ (A : ℕ) (E : ℕ → ℕ) (i m : ℕ) where
@@ -56,21 +55,8 @@ module _ (A : ℕ) (E : ℕ → ℕ) (i b : ℕ) (passes : Passes A E i) (is : b
   pub behind-in : (n : ℕ) → i ≤ n → b < n
   behind-in n h = omega (arith, behind-low)
 
-  pub behind-below : (n : ℕ) → i < n → b < n
-  behind-below n h = omega (arith, behind-low)
-
   pub behind-sound : Sound E (suc b)
   behind-sound = sound-part (suc b) behind-low (passes-sound passes)
-
-  -- the first step of a walk, settled before it: one more than the echo before always stands, and behind the echo 0 one value is open
-  pub later-top : (m : ℕ) → b + 1 ≡ m → DONE ≡ weighed A E i m
-  later-top m e = later-more A E i m b DONE is later (omega arith) (weigh-top E b behind-sound m e)
-
-  pub later-one : (m : ℕ) → b ≡ 0 → 1 < A → m ≤ 0 → DONE ≡ weighed A E i m
-  later-one m z l p = later-fits A E i m b 1 is later p (open-end E b behind-sound z) l
-
-  pub later-none : (m : ℕ) → b ≡ 0 → A ≤ 1 → m ≤ 0 → FULL ≡ weighed A E i m
-  later-none m z l p = later-full A E i m b 1 is later p (open-end E b behind-sound z) l
 
 pub number-there : (A : ℕ) (E : ℕ → ℕ) (i x r : ℕ) → x ≡ E (i + 1) → r ≡ weighed A E i x → r ≡ numberAt A E (i + 1)
 unfolding numberAt

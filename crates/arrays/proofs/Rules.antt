@@ -14,7 +14,7 @@ use Rattle.words.specs.Numbers.{DONE, IMPOSSIBLE, HIDDEN, FULL}
 use Rattle.words.specs.Stand.{possible, hidden, opens, weight, weighed}
 use Rattle.words.proofs.Lists.{which, either, both-true, both-left, both-right, In, here, there, In-nil, In-cons, In-each, In-each-out, any-in, any-none, keep-in, keep-out, zero-or-more, in?, Falls, keep-same, keep-less}
 use Rattle.words.proofs.Rows.{down-ind, chain-zero, chain-suc}
-use Rattle.arrays.specs.Steps.{Passes, Sound}
+use Rattle.arrays.specs.Steps.{Passes, Sound, peak}
 
 -- c + 1 is possible exactly for the c on the chain
 pub possible-in : (E : ℕ → ℕ) (b c : ℕ) → In c (chain E b) → In (suc c) (possible E b)
@@ -265,9 +265,24 @@ opens-at-most {A} {E} {n} pos passes b h = down-ind (sound-small n s) (λ b. b <
     s = passes-sound passes
 
 -- every standing prefix has a next value, over every A: zero at the first place, and behind it the greatest possible one
-pub top-stands : (A : ℕ) {E : ℕ → ℕ} {n : ℕ} → Sound E (suc n) → weighed A E (suc n) (suc (E (suc n))) ≡ DONE
+top-stands : (A : ℕ) {E : ℕ → ℕ} {n : ℕ} → Sound E (suc n) → weighed A E (suc n) (suc (E (suc n))) ≡ DONE
 top-stands A {E} {n} s = weighed-more A E n _ (omega arith) ∙ walk-top s (E (suc n)) _ (omega (arith, echo-low s n (omega arith))) refl
 
-pub next-stands : (A : ℕ) {E : ℕ → ℕ} (n : ℕ) → Sound E n → (m : ℕ) × (weighed A E n m ≡ DONE)
-next-stands A {E} zero s = (0, weighed-first A E 0 refl)
-next-stands A {E} (suc n) s = (suc (E (suc n)), top-stands A s)
+-- the greatest value stands, and what stands is not above it
+module _ {A : ℕ} {E : ℕ → ℕ} where
+  pub peak-low : (n : ℕ) → Passes A E n → peak E n ≤ n
+  unfolding peak
+  peak-low zero p = omega arith
+  peak-low (suc n) p = omega (arith, sound-small (suc n) (passes-sound p) .below n (omega arith))
+
+  pub peak-stands : (n : ℕ) → Passes A E n → weighed A E n (peak E n) ≡ DONE
+  unfolding peak
+  peak-stands zero p = weighed-first A E 0 refl
+  peak-stands (suc n) p = top-stands A (passes-sound p)
+
+  pub peak-most : (n m : ℕ) → Passes A E n → weighed A E n m ≡ DONE → m ≤ peak E n
+  unfolding peak
+  peak-most zero m p w = either (weighed-done A E zero m w) (λ e. omega arith) (λ r. absurd (omega (arith, r .0)))
+  peak-most (suc n) m p w = let s = sound-small (suc n) (passes-sound p) in either (weighed-done A E (suc n) m w)
+      (λ e. omega arith)
+      (λ r. possible-range s (E (suc n)) (omega (arith, s .below n (omega arith))) m (r .1) .1)

@@ -14,12 +14,13 @@ use Rattle.words.specs.Rows.{card, Small, Alike}
 use Rattle.words.specs.Numbers.{DONE, firstLetter}
 use Rattle.words.specs.Stand.{possible, verdict}
 use Rattle.words.specs.Least.{leastNot, freeLetter, nextCard, rebuilt}
-use Rattle.words.proofs.Rows.{small-less, alike-at, alike-refl, alike-sym}
+use Rattle.words.proofs.Rows.{small-less, alike-at, alike-part, alike-refl, alike-sym}
 use Rattle.arrays.specs.Steps.{Passes, Sound, Echoing}
 use Rattle.words.proofs.Lists.{each-same}
 use Rattle.arrays.proofs.Rules.{small-at, sound-small, sound-part, passes-sound, passes-part, possible-zero, possible-suc, possible-range, weighed-room}
 use Rattle.arrays.proofs.Cards.{echoing-alike}
 use Rattle.arrays.proofs.Growth.{fresh-tried, next-zero, next-more}
+use Rattle.arrays.proofs.Alike.{behind-alike}
 use Rattle.arrays.proofs.Places.{card-take, verdict-passes}
 use Rattle.arrays.proofs.Theorem.{rebuilt-echoing}
 
@@ -109,25 +110,42 @@ next-alike {E} {X} {Y} (suc n) zero s l a = ap freeLetter (each-same X Y (possib
     (λ k i. let q = s .below n (omega arith) in let r = possible-range s (E (suc n)) (omega arith) k i in alike-at a k (r .0) (omega arith)))
 next-alike (suc n) (suc m) s l a = alike-at a (suc m) (omega arith) l
 
+next-echoes : {E F : ℕ → ℕ} (X : ℕ → ℕ) (n m : ℕ) → Small E n → Alike E F n → nextCard E X n m ≡ nextCard F X n m
+unfolding nextCard
+next-echoes X zero m s a = refl
+next-echoes X (suc n) zero s a = ap (λ (l : List ℕ). freeLetter (each X l)) (behind-alike a s (suc n) (omega arith) (omega arith))
+next-echoes X (suc n) (suc m) s a = refl
+
+-- the least row is made of the first n echoes alone
+pub rebuilt-alike : {E F : ℕ → ℕ} (n : ℕ) → Small E n → Alike E F n → rebuilt E n ≡ rebuilt F n
+unfolding rebuilt
+rebuilt-alike zero s a = refl
+rebuilt-alike {E} {F} (suc n) s a =
+    let h = rebuilt-alike n (small-less n (omega arith) s) (alike-part n (omega arith) a) in
+    let X = card (rebuilt E n) in
+    ap₂ (λ (x : List ℕ) (c : ℕ). x ++ (c ∷ [])) h (
+    next-echoes X n (E (suc n)) (small-less n (omega arith) s) (alike-part n (omega arith) a)
+    ∙ ap₂ (λ (x : List ℕ) (m : ℕ). nextCard F (card x) n m) h (a .same n (omega arith))
+    )
+
 pub write-none : (E : ℕ → ℕ) (x : List ℕ) → take 0 x ≡ rebuilt E 0
 unfolding rebuilt
 write-none E [] = refl
 write-none E (a ∷ x) = refl
 
-pub passed : (A : ℕ) (e : List ℕ) (i : ℕ) → verdict A e ≡ (DONE, 0) → i < length e → Passes A (at e) (i + 1)
-passed A e i v h = passes-part (i + 1) (omega arith) (verdict-passes A e (ap (λ (t : ℕ × ℕ). t .0) v))
+module _ (A : ℕ) (E : ℕ → ℕ) (n : ℕ) (passes : Passes A E n) where
+  pub passed : (x : List ℕ) (i : ℕ) → length x ≡ n → i < length x → Passes A E (i + 1)
+  passed x i g h = passes-part (i + 1) (omega arith) passes
 
-pub write-more : (A : ℕ) (e x : List ℕ) (i c : ℕ) → verdict A e ≡ (DONE, 0) → take i x ≡ rebuilt (at e) i → i < length e → length x ≡ length e
-    → c ≡ nextCard (at e) (card x) i (at e (i + 1)) → take (i + 1) (set x i c) ≡ rebuilt (at e) (i + 1)
-unfolding rebuilt
-write-more A e x i c v t h g q =
-    let E = at e in
-    let s = sound-small (i + 1) (passes-sound (passed A e i v h)) in
-    let l = s .below i (omega arith) in
-    let f : E (i + 1) ≡ E (suc i) = ap E (add-one i) in
-    let d : c ≡ nextCard E (card (rebuilt E i)) i (E (suc i)) = q ∙ ap (nextCard E (card x) i) f
-    ∙ next-alike i (E (suc i)) (small-less i (omega arith) s) l (card-take x i) ∙ ap (λ (y : List ℕ). nextCard E (card y) i (E (suc i))) t in
-    rw add-one (take-suc-set x i c (omega arith) ∙ ap₂ (λ (y : List ℕ) (z : ℕ). y ++ (z ∷ [])) t d)
+  pub write-more : (x : List ℕ) (i c : ℕ) → take i x ≡ rebuilt E i → i < length x → length x ≡ n → c ≡ nextCard E (card x) i (E (i + 1)) → take (i + 1) (set x i c) ≡ rebuilt E (i + 1)
+  unfolding rebuilt
+  write-more x i c t h g q =
+      let s = sound-small (i + 1) (passes-sound (passed x i g h)) in
+      let l = s .below i (omega arith) in
+      let f : E (i + 1) ≡ E (suc i) = ap E (add-one i) in
+      let d : c ≡ nextCard E (card (rebuilt E i)) i (E (suc i)) = q ∙ ap (nextCard E (card x) i) f
+      ∙ next-alike i (E (suc i)) (small-less i (omega arith) s) l (card-take x i) ∙ ap (λ (y : List ℕ). nextCard E (card y) i (E (suc i))) t in
+      rw add-one (take-suc-set x i c (omega arith) ∙ ap₂ (λ (y : List ℕ) (z : ℕ). y ++ (z ∷ [])) t d)
 
-pub written : (e x : List ℕ) (i : ℕ) → take i x ≡ rebuilt (at e) i → i ≤ length e → length e ≤ i → length x ≡ length e → x ≡ rebuilt (at e) (length e)
-written e x i t h k l = sym (take-all (length e) x (omega arith)) ∙ (let g : length e ≡ i = omega arith in rw g t)
+pub written : (E : ℕ → ℕ) (n : ℕ) (x : List ℕ) (i : ℕ) → take i x ≡ rebuilt E i → i ≤ n → length x ≤ i → length x ≡ n → x ≡ rebuilt E n
+written E n x i t h k l = sym (take-all n x (omega arith)) ∙ (let g : n ≡ i = omega arith in rw g t)

@@ -3,7 +3,7 @@ use mathlib.Core.Path.{_≡_}
 use mathlib.Core.Bool.{true}
 use mathlib.Core.Logic.{_⊎_}
 use mathlib.Core.List.{List}
-use Prim.Native.Nat.{ℕ, suc, _+_, _-_, _≤_, _<_}
+use Prim.Native.Nat.{ℕ, zero, suc, _+_, _-_, _≤_, _<_}
 use lib.ListN.{length, take}
 use Rattle.words.specs.Lists.{at}
 use Rattle.words.specs.Rows.{Alike}
@@ -19,6 +19,11 @@ pub record Passes (A : ℕ) (E : ℕ → ℕ) (n : ℕ) : Type 0 where
 pub record Sound (E : ℕ → ℕ) (n : ℕ) : Type 0 where
   pub over : ℕ
   pub passes : Passes over E n
+
+-- the greatest value behind the first n places: zero at the first place, and behind it one more than the echo before
+unfoldable pub peak : (ℕ → ℕ) → ℕ → ℕ
+peak E zero = 0
+peak E (suc n) = suc (E (suc n))
 
 -- the first n cards are of the A letters
 pub record Inside (A : ℕ) (X : ℕ → ℕ) (n : ℕ) : Type 0 where

@@ -1,8 +1,9 @@
-// From echoes: judging an array, and the least row of one that stands.
-mod table;
-
+// From echoes: judging an array, and the least row of one that stands. An array is held in a table of 4,096 entries, of which its echoes are the
+// first: a reference to such a table travels in a register, where a slice goes through memory, so a walk along the chain that calls itself runs as a
+// loop and needs no stack.
 use rows::card_at;
 use rows::echo_at;
+use rows::put_echo;
 use words::DONE;
 use words::FIRST_LETTER;
 use words::FULL;
@@ -17,17 +18,49 @@ ghost use Rattle.words.specs.Rows.{card};
 ghost use Rattle.words.specs.Numbers.{letters, limit};
 ghost use Rattle.words.specs.Least.{leastNot, nextCard, rebuilt};
 ghost use Rattle.words.specs.Stand.{possible, opens, weight, weighed, verdict};
-ghost use Rattle.arrays.specs.Steps.{Passes, Sound};
+ghost use Rattle.arrays.specs.Steps.{Passes, Sound, peak as peakOf};
 
 pub struct Verdict {
     pub number: u8,
     pub place: usize,
 }
 
+// Writes the echoes into the table.
+pub fn hold(e: &[u16], t: &mut [u16; 4096])
+    requires { ⌜ (length (now e) ≤ limit) × (length (now t) ≡ limit) ⌝ }
+    ensures { λ _. ⌜ (take (length (now (e .entry))) (now (t .exit)) ≡ now (e .entry)) × (length (now (t .exit)) ≡ limit) ⌝ }
+{
+    let mut i = 0;
+    while i < e.len() {
+        put_echo(t, i + 1, echo_at(e, i + 1));
+        i += 1;
+    }
+}
+
+// Writes the table's first echoes into the slice.
+pub fn give(t: &[u16; 4096], e: &mut [u16])
+    requires { ⌜ (length (now e) ≤ limit) × (length (now t) ≡ limit) ⌝ }
+    ensures { λ _. ⌜ now (e .exit) ≡ take (length (now (e .entry))) (now (t .entry)) ⌝ }
+{
+    let mut i = 0;
+    while i < e.len() {
+        put_echo(e, i + 1, echo(t, i + 1));
+        i += 1;
+    }
+}
+
+// The echo at place i.
+pub fn echo(t: &[u16; 4096], i: usize) -> usize
+    requires { ⌜ (0 < i) × (i ≤ limit) ⌝ }
+    ensures { λ r. ⌜ (r ≡ at (now (t .entry)) i) × (r < 65536) ⌝ }
+{
+    echo_at(t, i)
+}
+
 // The number of the value m > 0 where the echo of the place before is b: a walk along the chain.
-fn weigh(e: &[u16], b: usize, m: usize) -> u8
-    requires { do ⌜ (b < (← ⟦e.len()⟧)) × (0 < m) × Sound (at (now e)) (suc b) ⌝ }
-    ensures { λ r. ⌜ r ≡ weight (at (now (e .entry))) b m ⌝ }
+fn weigh(t: &[u16; 4096], b: usize, m: usize) -> u8
+    requires { ⌜ (b < limit) × (0 < m) × Sound (at (now t)) (suc b) ⌝ }
+    ensures { λ r. ⌜ r ≡ weight (at (now (t .entry))) b m ⌝ }
 {
     if b + 1 == m {
         DONE
@@ -35,121 +68,137 @@ fn weigh(e: &[u16], b: usize, m: usize) -> u8
         IMPOSSIBLE
     } else if b == 0 {
         IMPOSSIBLE
-    } else if echo_at(e, b + 1) == m {
+    } else if echo(t, b + 1) == m {
         HIDDEN
     } else {
-        weigh(e, echo_at(e, b), m)
+        weigh(t, echo(t, b), m)
     }
 }
 
-// How many values are open where the echo of the place before is b. Along the chain the possible values with the echo 0 are as many.
-pub fn open_count(e: &[u16], b: usize) -> usize
-    requires { do ⌜ (b < (← ⟦e.len()⟧)) × Sound (at (now e)) (suc b) ⌝ }
-    ensures counted { λ r. ⌜ r ≡ length (opens (at (now (e .entry))) b) ⌝ }
+// How many values are open where the echo of the place before is b. Along the chain the possible values with the echo 0 are as many. What is left
+// behind the call is a sum alone: so this walk too runs as a loop.
+pub fn open_count(t: &[u16; 4096], b: usize) -> usize
+    requires { ⌜ (b < limit) × Sound (at (now t)) (suc b) ⌝ }
+    ensures counted { λ r. ⌜ r ≡ length (opens (at (now (t .entry))) b) ⌝ }
     ensures few { λ r. ⌜ r ≤ b + 1 ⌝ }
 {
     if b == 0 {
         1
     } else {
-        let rest = open_count(e, echo_at(e, b));
-        if echo_at(e, b + 1) == 0 {
-            rest + 1
-        } else {
-            rest
-        }
+        let top = echo(t, b + 1);
+        let rest = open_count(t, echo(t, b));
+        if top == 0 { rest + 1 } else { rest }
     }
 }
 
-// The number of the value m behind the first i places, which stand. The first step of each walk is settled here, before the call.
-pub fn number_of(a: usize, e: &[u16], i: usize, m: usize) -> u8
-    requires { do ⌜ (i ≤ (← ⟦e.len()⟧)) × Passes a (at (now e)) i ⌝ }
-    ensures { λ r. ⌜ r ≡ weighed a (at (now (e .entry))) i m ⌝ }
+// The number of the value m behind the first i places, which stand.
+pub fn number_of(a: usize, t: &[u16; 4096], i: usize, m: usize) -> u8
+    requires { ⌜ (i ≤ limit) × Passes a (at (now t)) i ⌝ }
+    ensures { λ r. ⌜ r ≡ weighed a (at (now (t .entry))) i m ⌝ }
 {
     if i == 0 {
         if m == 0 { DONE } else { IMPOSSIBLE }
+    } else if 0 < m {
+        weigh(t, echo(t, i), m)
+    } else if open_count(t, echo(t, i)) < a {
+        DONE
     } else {
-        let b = echo_at(e, i);
-        if b + 1 == m {
-            DONE
-        } else if 0 < m {
-            weigh(e, b, m)
-        } else if b == 0 {
-            if 1 < a { DONE } else { FULL }
-        } else if open_count(e, b) < a {
-            DONE
-        } else {
-            FULL
-        }
+        FULL
     }
 }
 
-// Number and first bad place of the array e over a letters.
-pub fn judge(a: usize, e: &[u16]) -> Verdict
-    requires { ⌜ length (now e) ≤ limit ⌝ }
-    ensures { λ r. ⌜ (r .number, r .place) ≡ verdict a (now (e .entry)) ⌝ }
+// The same where the greatest value behind those places is known. It always stands, so only what is not it takes a walk.
+fn number_below(a: usize, t: &[u16; 4096], i: usize, m: usize, peak: usize) -> u8
+    requires { ⌜ (i ≤ limit) × Passes a (at (now t)) i × (peak ≡ peakOf (at (now t)) i) ⌝ }
+    ensures { λ r. ⌜ r ≡ weighed a (at (now (t .entry))) i m ⌝ }
 {
-    let mut t = [0u16; 4096];
-    table::copy(e, &mut t);
-    table::judge(a, &t, e.len())
+    if m == peak {
+        DONE
+    } else {
+        number_of(a, t, i, m)
+    }
+}
+
+// Number and first bad place of the array of n echoes over a letters.
+pub fn judge(a: usize, t: &[u16; 4096], n: usize) -> Verdict
+    requires { ⌜ (n ≤ limit) × (length (now t) ≡ limit) ⌝ }
+    ensures { λ r. ⌜ (r .number, r .place) ≡ verdict a (take n (now (t .entry))) ⌝ }
+{
+    let mut i = 0;
+    let mut peak = 0;
+    while i < n {
+        let m = echo(t, i + 1);
+        let w = number_below(a, t, i, m, peak);
+        if w != DONE {
+            return Verdict {
+                number: w,
+                place: i + 1,
+            };
+        }
+        peak = m + 1;
+        i += 1;
+    }
+    Verdict {
+        number: DONE,
+        place: 0,
+    }
 }
 
 // Whether c is the card of a possible place, where the echo of the place before is b: a walk along the chain.
-fn taken(e: &[u16], x: &[u8], b: usize, c: u8) -> bool
-    requires { do ⌜ (b < (← ⟦e.len()⟧)) × (b < (← ⟦x.len()⟧)) × Sound (at (now e)) (suc b) ⌝ }
-    ensures { λ r. ⌜ r ≡ any (eqb c) (each (card (now (x .entry))) (possible (at (now (e .entry))) b)) ⌝ }
+fn taken(t: &[u16; 4096], x: &[u8], b: usize, c: u8) -> bool
+    requires { do ⌜ (b < limit) × (b < (← ⟦x.len()⟧)) × Sound (at (now t)) (suc b) ⌝ }
+    ensures { λ r. ⌜ r ≡ any (eqb c) (each (card (now (x .entry))) (possible (at (now (t .entry))) b)) ⌝ }
 {
     if card_at(x, b + 1) == c {
         true
     } else if b == 0 {
         false
     } else {
-        taken(e, x, echo_at(e, b), c)
+        taken(t, x, echo(t, b), c)
     }
 }
 
 // The least letter from c on, f of them to try, that is the card of no possible place.
-fn least(e: &[u16], x: &[u8], b: usize, c: u8, f: usize) -> u8
+fn least(t: &[u16; 4096], x: &[u8], b: usize, c: u8, f: usize) -> u8
     requires { do
-      ⌜ (b < (← ⟦e.len()⟧)) × (b < (← ⟦x.len()⟧)) × (c + f < 256) × Sound (at (now e)) (suc b) ⌝ }
-    ensures { λ r. ⌜ r ≡ leastNot f c (each (card (now (x .entry))) (possible (at (now (e .entry))) b)) ⌝ }
+      ⌜ (b < limit) × (b < (← ⟦x.len()⟧)) × (c + f < 256) × Sound (at (now t)) (suc b) ⌝ }
+    ensures { λ r. ⌜ r ≡ leastNot f c (each (card (now (x .entry))) (possible (at (now (t .entry))) b)) ⌝ }
 {
     if f == 0 {
         c
-    } else if taken(e, x, b, c) {
-        least(e, x, b, c + 1, f - 1)
+    } else if taken(t, x, b, c) {
+        least(t, x, b, c + 1, f - 1)
     } else {
         c
     }
 }
 
 // The card of place i + 1 of the least row, where x has its first i cards.
-fn next_card(a: usize, e: &[u16], x: &[u8], i: usize) -> u8
+fn next_card(a: usize, t: &[u16; 4096], x: &[u8], i: usize) -> u8
     requires { do
-      ⌜ (i < (← ⟦e.len()⟧)) × (i < (← ⟦x.len()⟧)) × (a ≤ letters) × Passes a (at (now e)) (i + 1) ×
-          (take i (now x) ≡ rebuilt (at (now e)) i) ⌝ }
-    ensures { λ r. ⌜ r ≡ nextCard (at (now (e .entry))) (card (now (x .entry))) i (at (now (e .entry)) (i + 1)) ⌝ }
+      ⌜ (i < limit) × (i < (← ⟦x.len()⟧)) × (a ≤ letters) × Passes a (at (now t)) (i + 1) × (take i (now x) ≡ rebuilt (at (now t)) i) ⌝ }
+    ensures { λ r. ⌜ r ≡ nextCard (at (now (t .entry))) (card (now (x .entry))) i (at (now (t .entry)) (i + 1)) ⌝ }
 {
     if i == 0 {
         FIRST_LETTER
     } else {
-        let m = echo_at(e, i + 1);
+        let m = echo(t, i + 1);
         if m == 0 {
-            least(e, x, echo_at(e, i), FIRST_LETTER, a)
+            least(t, x, echo(t, i), FIRST_LETTER, a)
         } else {
             card_at(x, m)
         }
     }
 }
 
-// Writes the least row of the array e, which stands over a letters.
-pub fn rebuild(a: usize, e: &[u16], x: &mut [u8])
-    requires { do
-      ⌜ (a ≤ letters) × ((← ⟦e.len()⟧) ≡ (← ⟦x.len()⟧)) × (verdict a (now e) ≡ (0, 0)) ⌝ }
-    ensures { λ r. ⌜ now (x .exit) ≡ rebuilt (at (now (e .entry))) (length (now (e .entry))) ⌝ }
+// Writes the least row of the array of as many echoes as x has cards, which stands over a letters.
+pub fn rebuild(a: usize, t: &[u16; 4096], x: &mut [u8])
+    requires { ⌜ (a ≤ letters) × (length (now x) ≤ limit) × Passes a (at (now t)) (length (now x)) ⌝ }
+    ensures { λ r. ⌜ now (x .exit) ≡ rebuilt (at (now (t .entry))) (length (now (x .entry))) ⌝ }
 {
     let mut i = 0;
-    while i < e.len() {
-        let c = next_card(a, e, x, i);
+    while i < x.len() {
+        let c = next_card(a, t, x, i);
         x[i] = c;
         i += 1;
     }

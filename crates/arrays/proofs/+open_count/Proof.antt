@@ -7,7 +7,7 @@ use borrow.Fn.PlainCycle.{Measures, is, falls, and}
 use Rattle.arrays.proofs.open_count.Reads as open-count
 use Rattle.arrays.proofs.open_count.Kinds as open-count-kinds
 use Rattle.arrays.proofs.+open_count.Lts-open_count as open-count-lts
-use Rattle.rows.proofs.echo_at.Reads as echo-at-reads
+use Rattle.arrays.proofs.echo.Reads as echo-reads
 use Rattle.arrays.proofs.+open_count.{statement}
 use Rattle.arrays.proofs.+open_count.Tie.{close}
 
@@ -22,38 +22,38 @@ abbrev open-count-below : ℕ → In 1 open-count-kinds.ps
 open-count-below t =
     and 1 open-count-kinds.ps (falls 1 open-count-kinds.ps _<_ μ-open-count t) open-count.Pre
 
-open-count-echo-at-requires : (t : ℕ) → open-count-lts.Need-echo-at-requires (echo-at-reads.Asked, echo-at-reads.Learnt, open-count-below t, open-count.Post) (open-count-at t) open-count.Post
-open-count-echo-at-requires t c κs = search needs
+open-count-add-echo : (t : ℕ) → open-count-lts.Need-add-echo (echo-reads.Asked, echo-reads.Learnt, open-count-below t, open-count.Post) (open-count-at t) open-count.Post
+open-count-add-echo t c = search needs
 
-open-count-open-count-requires : (t : ℕ) → open-count-lts.Need-open-count-requires (echo-at-reads.Asked, echo-at-reads.Learnt, open-count-below t, open-count.Post) (open-count-at t) open-count.Post
+open-count-echo-requires : (t : ℕ) → open-count-lts.Need-echo-requires (echo-reads.Asked, echo-reads.Learnt, open-count-below t, open-count.Post) (open-count-at t) open-count.Post
+open-count-echo-requires t c κs = search needs
+
+open-count-echo-requires-2 : (t : ℕ) → open-count-lts.Need-echo-requires-2 (echo-reads.Asked, echo-reads.Learnt, open-count-below t, open-count.Post) (open-count-at t) open-count.Post
+open-count-echo-requires-2 t c κs = search needs
+
+open-count-open-count-requires : (t : ℕ) → open-count-lts.Need-open-count-requires (echo-reads.Asked, echo-reads.Learnt, open-count-below t, open-count.Post) (open-count-at t) open-count.Post
 open-count-open-count-requires t c κs = search (needs, next-at, next-in, next-sound)
 
-open-count-add-echo-at : (t : ℕ) → open-count-lts.Need-add-echo-at (echo-at-reads.Asked, echo-at-reads.Learnt, open-count-below t, open-count.Post) (open-count-at t) open-count.Post
-open-count-add-echo-at t c = search needs
-
-open-count-echo-at-requires-2 : (t : ℕ) → open-count-lts.Need-echo-at-requires-2 (echo-at-reads.Asked, echo-at-reads.Learnt, open-count-below t, open-count.Post) (open-count-at t) open-count.Post
-open-count-echo-at-requires-2 t c κs = search needs
-
-open-count-add-result : (t : ℕ) → open-count-lts.Need-add-result (echo-at-reads.Asked, echo-at-reads.Learnt, open-count-below t, open-count.Post) (open-count-at t) open-count.Post
+open-count-add-result : (t : ℕ) → open-count-lts.Need-add-result (echo-reads.Asked, echo-reads.Learnt, open-count-below t, open-count.Post) (open-count-at t) open-count.Post
 open-count-add-result t c = search (needs, few-fits)
 
-open-count-returns : (t : ℕ) → open-count-lts.Need-returns (echo-at-reads.Asked, echo-at-reads.Learnt, open-count-below t, open-count.Post) (open-count-at t) open-count.Post
+open-count-returns : (t : ℕ) → open-count-lts.Need-returns (echo-reads.Asked, echo-reads.Learnt, open-count-below t, open-count.Post) (open-count-at t) open-count.Post
 open-count-returns t c = search (needs, open-end)
 
-open-count-returns-2 : (t : ℕ) → open-count-lts.Need-returns-2 (echo-at-reads.Asked, echo-at-reads.Learnt, open-count-below t, open-count.Post) (open-count-at t) open-count.Post
+open-count-returns-2 : (t : ℕ) → open-count-lts.Need-returns-2 (echo-reads.Asked, echo-reads.Learnt, open-count-below t, open-count.Post) (open-count-at t) open-count.Post
 open-count-returns-2 t c = search (needs, open-fresh, few-fresh)
 
-open-count-returns-3 : (t : ℕ) → open-count-lts.Need-returns-3 (echo-at-reads.Asked, echo-at-reads.Learnt, open-count-below t, open-count.Post) (open-count-at t) open-count.Post
+open-count-returns-3 : (t : ℕ) → open-count-lts.Need-returns-3 (echo-reads.Asked, echo-reads.Learnt, open-count-below t, open-count.Post) (open-count-at t) open-count.Post
 open-count-returns-3 t c = search (needs, open-used, few-used)
 
 pub +open-count-spec : {M : Type 1} → statement M
-+open-count-spec = close μ-open-count λ t. open-count-lts.spec (echo-at-reads.Asked, echo-at-reads.Learnt, open-count-below t, open-count.Post)
++open-count-spec = close μ-open-count λ t. open-count-lts.spec (echo-reads.Asked, echo-reads.Learnt, open-count-below t, open-count.Post)
     (open-count-at t)
     open-count.Post
-    (open-count-echo-at-requires t)
+    (open-count-add-echo t)
+    (open-count-echo-requires t)
+    (open-count-echo-requires-2 t)
     (open-count-open-count-requires t)
-    (open-count-add-echo-at t)
-    (open-count-echo-at-requires-2 t)
     (open-count-add-result t)
     (open-count-returns t)
     (open-count-returns-2 t)

@@ -7,7 +7,7 @@ use borrow.Fn.PlainCycle.{Measures, is, falls, and}
 use Rattle.arrays.proofs.weigh.Reads as weigh
 use Rattle.arrays.proofs.weigh.Kinds as weigh-kinds
 use Rattle.arrays.proofs.+weigh.Lts-weigh as weigh-lts
-use Rattle.rows.proofs.echo_at.Reads as echo-at-reads
+use Rattle.arrays.proofs.echo.Reads as echo-reads
 use Rattle.arrays.proofs.+weigh.{statement}
 use Rattle.arrays.proofs.+weigh.Tie.{close}
 
@@ -20,48 +20,48 @@ weigh-at t = and 1 weigh-kinds.ps (is 1 weigh-kinds.ps μ-weigh t) weigh.Pre
 abbrev weigh-below : ℕ → In 1 weigh-kinds.ps
 weigh-below t = and 1 weigh-kinds.ps (falls 1 weigh-kinds.ps _<_ μ-weigh t) weigh.Pre
 
-weigh-add-if1 : (t : ℕ) → weigh-lts.Need-add-if1 (echo-at-reads.Asked, echo-at-reads.Learnt, weigh-below t, weigh.Post) (weigh-at t) weigh.Post
+weigh-add-if1 : (t : ℕ) → weigh-lts.Need-add-if1 (echo-reads.Asked, echo-reads.Learnt, weigh-below t, weigh.Post) (weigh-at t) weigh.Post
 weigh-add-if1 t c = search needs
 
-weigh-add-if2 : (t : ℕ) → weigh-lts.Need-add-if2 (echo-at-reads.Asked, echo-at-reads.Learnt, weigh-below t, weigh.Post) (weigh-at t) weigh.Post
+weigh-add-if2 : (t : ℕ) → weigh-lts.Need-add-if2 (echo-reads.Asked, echo-reads.Learnt, weigh-below t, weigh.Post) (weigh-at t) weigh.Post
 weigh-add-if2 t c = search needs
 
-weigh-add-echo-at : (t : ℕ) → weigh-lts.Need-add-echo-at (echo-at-reads.Asked, echo-at-reads.Learnt, weigh-below t, weigh.Post) (weigh-at t) weigh.Post
-weigh-add-echo-at t c = search needs
+weigh-add-echo : (t : ℕ) → weigh-lts.Need-add-echo (echo-reads.Asked, echo-reads.Learnt, weigh-below t, weigh.Post) (weigh-at t) weigh.Post
+weigh-add-echo t c = search needs
 
-weigh-echo-at-requires : (t : ℕ) → weigh-lts.Need-echo-at-requires (echo-at-reads.Asked, echo-at-reads.Learnt, weigh-below t, weigh.Post) (weigh-at t) weigh.Post
-weigh-echo-at-requires t c κs = search needs
+weigh-echo-requires : (t : ℕ) → weigh-lts.Need-echo-requires (echo-reads.Asked, echo-reads.Learnt, weigh-below t, weigh.Post) (weigh-at t) weigh.Post
+weigh-echo-requires t c κs = search needs
 
-weigh-echo-at-requires-2 : (t : ℕ) → weigh-lts.Need-echo-at-requires-2 (echo-at-reads.Asked, echo-at-reads.Learnt, weigh-below t, weigh.Post) (weigh-at t) weigh.Post
-weigh-echo-at-requires-2 t c κs = search needs
+weigh-echo-requires-2 : (t : ℕ) → weigh-lts.Need-echo-requires-2 (echo-reads.Asked, echo-reads.Learnt, weigh-below t, weigh.Post) (weigh-at t) weigh.Post
+weigh-echo-requires-2 t c κs = search needs
 
-weigh-weigh-requires : (t : ℕ) → weigh-lts.Need-weigh-requires (echo-at-reads.Asked, echo-at-reads.Learnt, weigh-below t, weigh.Post) (weigh-at t) weigh.Post
+weigh-weigh-requires : (t : ℕ) → weigh-lts.Need-weigh-requires (echo-reads.Asked, echo-reads.Learnt, weigh-below t, weigh.Post) (weigh-at t) weigh.Post
 weigh-weigh-requires t c κs = search (needs, next-at, next-in, next-sound)
 
-weigh-returns : (t : ℕ) → weigh-lts.Need-returns (echo-at-reads.Asked, echo-at-reads.Learnt, weigh-below t, weigh.Post) (weigh-at t) weigh.Post
+weigh-returns : (t : ℕ) → weigh-lts.Need-returns (echo-reads.Asked, echo-reads.Learnt, weigh-below t, weigh.Post) (weigh-at t) weigh.Post
 weigh-returns t c = search (needs, weigh-top)
 
-weigh-returns-2 : (t : ℕ) → weigh-lts.Need-returns-2 (echo-at-reads.Asked, echo-at-reads.Learnt, weigh-below t, weigh.Post) (weigh-at t) weigh.Post
+weigh-returns-2 : (t : ℕ) → weigh-lts.Need-returns-2 (echo-reads.Asked, echo-reads.Learnt, weigh-below t, weigh.Post) (weigh-at t) weigh.Post
 weigh-returns-2 t c = search (needs, weigh-over)
 
-weigh-returns-3 : (t : ℕ) → weigh-lts.Need-returns-3 (echo-at-reads.Asked, echo-at-reads.Learnt, weigh-below t, weigh.Post) (weigh-at t) weigh.Post
+weigh-returns-3 : (t : ℕ) → weigh-lts.Need-returns-3 (echo-reads.Asked, echo-reads.Learnt, weigh-below t, weigh.Post) (weigh-at t) weigh.Post
 weigh-returns-3 t c = search (needs, weigh-end)
 
-weigh-returns-4 : (t : ℕ) → weigh-lts.Need-returns-4 (echo-at-reads.Asked, echo-at-reads.Learnt, weigh-below t, weigh.Post) (weigh-at t) weigh.Post
+weigh-returns-4 : (t : ℕ) → weigh-lts.Need-returns-4 (echo-reads.Asked, echo-reads.Learnt, weigh-below t, weigh.Post) (weigh-at t) weigh.Post
 weigh-returns-4 t c = search (needs, weigh-hit)
 
-weigh-returns-5 : (t : ℕ) → weigh-lts.Need-returns-5 (echo-at-reads.Asked, echo-at-reads.Learnt, weigh-below t, weigh.Post) (weigh-at t) weigh.Post
+weigh-returns-5 : (t : ℕ) → weigh-lts.Need-returns-5 (echo-reads.Asked, echo-reads.Learnt, weigh-below t, weigh.Post) (weigh-at t) weigh.Post
 weigh-returns-5 t c = search (needs, weigh-on)
 
 pub +weigh-spec : {M : Type 1} → statement M
-+weigh-spec = close μ-weigh λ t. weigh-lts.spec (echo-at-reads.Asked, echo-at-reads.Learnt, weigh-below t, weigh.Post)
++weigh-spec = close μ-weigh λ t. weigh-lts.spec (echo-reads.Asked, echo-reads.Learnt, weigh-below t, weigh.Post)
     (weigh-at t)
     weigh.Post
     (weigh-add-if1 t)
     (weigh-add-if2 t)
-    (weigh-add-echo-at t)
-    (weigh-echo-at-requires t)
-    (weigh-echo-at-requires-2 t)
+    (weigh-add-echo t)
+    (weigh-echo-requires t)
+    (weigh-echo-requires-2 t)
     (weigh-weigh-requires t)
     (weigh-returns t)
     (weigh-returns-2 t)

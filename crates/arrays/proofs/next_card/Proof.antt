@@ -4,14 +4,14 @@ use Rattle.arrays.proofs.Writing.{next-first, next-free, next-again, be
 use Rattle.arrays.proofs.next_card.Statement.{statement}
 use Rattle.arrays.proofs.next_card.Tie as tie
 
-add-echo-at : tie.Need-add-echo-at
-add-echo-at c = search needs
+add-echo : tie.Need-add-echo
+add-echo c = search needs
 
-echo-at-requires : tie.Need-echo-at-requires
-echo-at-requires c κs = search needs
+echo-requires : tie.Need-echo-requires
+echo-requires c κs = search needs
 
-echo-at-requires-2 : tie.Need-echo-at-requires-2
-echo-at-requires-2 c κs = search needs
+echo-requires-2 : tie.Need-echo-requires-2
+echo-requires-2 c κs = search needs
 
 least-requires : tie.Need-least-requires
 least-requires c κs = (search (needs, before-in), search (needs, before-in), search needs, search (needs, before-sound))
@@ -32,9 +32,9 @@ pub next-card-spec : {M : Type 1} → statement M
 next-card-spec =
     tie.close
     (tie.spec
-    add-echo-at
-    echo-at-requires
-    echo-at-requires-2
+    add-echo
+    echo-requires
+    echo-requires-2
     least-requires
     card-at-requires
     returns

@@ -10,10 +10,10 @@ use Rattle.arrays.proofs.rebuild.Statement.{statement}
 use Rattle.arrays.proofs.rebuild.Tie as tie
 
 abbrev Inv-loop : tie.InvT-loop
-Inv-loop a e x₀ i₀ x i = (i ≤ length e) × (length x ≡ length e) × (take i x ≡ rebuilt (at e) i)
+Inv-loop a t x₀ i₀ x i = (i ≤ length x₀) × (length x ≡ length x₀) × (take i x ≡ rebuilt (at t) i)
 
 abbrev μ-loop : tie.MeasureT-loop
-μ-loop a e x₀ i₀ x i = length e - i
+μ-loop a t x₀ i₀ x i = length x₀ - i
 
 loop-holds : tie.Need-loop-holds Inv-loop μ-loop
 loop-holds c = (search needs, search needs, search (needs, write-none))

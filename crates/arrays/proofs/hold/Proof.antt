@@ -1,13 +1,14 @@
--- `table::copy`. Assumes nothing.
+-- `hold`: the first i echoes are in the table. Assumes nothing.
 use borrow.Author.Needs.{needs}
 use lib.ListN.{length}
 use Prim.Native.Nat.{_-_}
-use Rattle.arrays.proofs.Tables.{Copied, copied-start, copied-more, copied-done}
-use Rattle.arrays.proofs.table.copy.Statement.{statement}
-use Rattle.arrays.proofs.table.copy.Tie as tie
+use Rattle.words.specs.Numbers.{limit}
+use Rattle.arrays.proofs.Tables.{Copied, copied-start, held-more, held-done}
+use Rattle.arrays.proofs.hold.Statement.{statement}
+use Rattle.arrays.proofs.hold.Tie as tie
 
 abbrev Inv-loop : tie.InvT-loop
-Inv-loop e t₀ i₀ t i = Copied e t i
+Inv-loop e t₀ i₀ t i = Copied e t limit i
 
 abbrev μ-loop : tie.MeasureT-loop
 μ-loop e t₀ i₀ t i = length e - i
@@ -34,13 +35,13 @@ loop-less : tie.Need-loop-less Inv-loop μ-loop
 loop-less c = search needs
 
 loop-again : tie.Need-loop-again Inv-loop μ-loop
-loop-again c = search (needs, copied-more)
+loop-again c = search (needs, held-more)
 
 returns : tie.Need-returns Inv-loop μ-loop
-returns c = search (needs, copied-done)
+returns c = search (needs, held-done)
 
-pub copy-spec : {M : Type 1} → statement M
-copy-spec =
+pub hold-spec : {M : Type 1} → statement M
+hold-spec =
     tie.close
     (tie.spec
     Inv-loop
