@@ -81,7 +81,7 @@ pub copied-start : (e t : List ℕ) (k : ℕ) → length t ≡ k → Copied e t 
 copied-start e t k h = record { long = h; right = record { same = λ j l. absurd (omega arith) } }
 
 module _ {e t : List ℕ} {k i : ℕ} (copying : Copied e t k i) where
-  copied-more : (u : List ℕ) (v : ℕ) → i < k → v ≡ at e (i + 1) → u ≡ placed t (i + 1) v → Copied e u k (i + 1)
+  pub copied-more : (u : List ℕ) (v : ℕ) → i < k → v ≡ at e (i + 1) → u ≡ placed t (i + 1) v → Copied e u k (i + 1)
   copied-more u v h q z = record { long = ap length z ∙ placed-long t (i + 1) v ∙ copying .long; right = record { same = λ j m. ap (λ (s : List ℕ). at s (suc j)) z ∙ entry j m } }
     where
       entry : (j : ℕ) → j < i + 1 → at (placed t (i + 1) v) (suc j) ≡ at e (suc j)

@@ -9,6 +9,7 @@ use words::FIRST_LETTER;
 use words::FULL;
 use words::HIDDEN;
 use words::IMPOSSIBLE;
+use words::Verdict;
 ghost use mathlib.Core.Path.{_≡_};
 ghost use Prim.Native.Nat.{suc, _+_, _≤_, _<_};
 ghost use lib.Dec.{eqb};
@@ -19,11 +20,6 @@ ghost use Rattle.words.specs.Numbers.{letters, limit};
 ghost use Rattle.words.specs.Least.{leastNot, nextCard, rebuilt};
 ghost use Rattle.words.specs.Stand.{possible, opens, weight, weighed, verdict};
 ghost use Rattle.arrays.specs.Steps.{Passes, Sound, peak as peakOf};
-
-pub struct Verdict {
-    pub number: u8,
-    pub place: usize,
-}
 
 // Writes the echoes into the table.
 pub fn hold(e: &[u16], t: &mut [u16; 4096])
@@ -100,10 +96,10 @@ pub fn number_of(a: usize, t: &[u16; 4096], i: usize, m: usize) -> u8
         if m == 0 { DONE } else { IMPOSSIBLE }
     } else if 0 < m {
         weigh(t, echo(t, i), m)
-    } else if open_count(t, echo(t, i)) < a {
-        DONE
-    } else {
+    } else if a <= open_count(t, echo(t, i)) {
         FULL
+    } else {
+        DONE
     }
 }
 

@@ -22,10 +22,6 @@ use Rattle.sheets.specs.Writing.{written}
 use Rattle.sheets.proofs.Outcome.{sheet-written}
 use Rattle.rows.proofs.Growing.{overlap-closes}
 
--- the first n entries of a table at the limit
-pub prefix-long : (n : ℕ) (l : List ℕ) → n ≤ limit → length l ≡ limit → length (take n l) ≡ n
-prefix-long n l h e = length-take-le n l (omega arith)
-
 -- a row that no check refuses is within the limit, and a slice beside it has its length
 module _ (n p A : ℕ) (x : List ℕ) (done : n ≡ DONE) where
   first : (c : ℕ × ℕ) → (n, p) ≡ refusal (c ∷ cards A x ∷ []) → c .0 ≡ DONE
@@ -90,14 +86,6 @@ module _ (x y : List ℕ) where
 pub part-long : (k : ℕ) (l : List ℕ) → k ≤ length l → k ≡ length (take k l)
 part-long k l h = sym (length-take-le k l h)
 
--- the tables of a sheet
-pub table-long : (x e : List ℕ) → e ≡ echoes x → length x ≤ limit → length e ≤ limit
-table-long x e q h = omega (arith, ap length q, echoes-long x)
-
-pub reach-long : (x r : List ℕ) → r ≡ reaches x → length x ≤ limit → length r ≤ limit
-unfolding reaches
-reach-long x r q h = omega (arith, ap length q, places-length (reach (card x) (length x)) (length x))
-
 pub sheet-refused : (A : ℕ) (x old : List ℕ) (n p : ℕ) → (n, p) ≡ rowed A x → (n ≡ DONE → ⊥) → (n, p, 0, old) ≡ sheet-outcome A x old
 unfolding sheet-outcome given kept
 sheet-refused A x old n p e d = subst (λ (S : ℕ × ℕ). (n, p, 0, old) ≡ told S) (refusal-stop (rowed A x) room (n, p) [] e d) (rw (ne-eqb n DONE d))
@@ -133,9 +121,6 @@ module _ (A : ℕ) (x g : List ℕ) (n p : ℕ) (checked : (n, p) ≡ paired A x
   pub pair-matches : length g ≡ length x
   unfolding refusal
   pair-matches = matching-clear (length x) (length g) (refusal-clear (long limit (length g)) (matching (length x) (length g)) [] (lengths .1) .1)
-
-pub difference-echoes : (x y e f : List ℕ) (r : ℕ) → e ≡ echoes x → f ≡ echoes y → r ≡ differing e f → r ≡ differing (echoes x) (echoes y)
-difference-echoes x y e f r p q z = rw (p, q) at z
 
 pub guess-answer : (A : ℕ) (x g : List ℕ) (n p d : ℕ) (s : ℕ × ℕ) → (n, p) ≡ paired A x g → n ≡ DONE → d ≡ differing (echoes x) (echoes g) → s ≡ named DIFFERS d
     → s ≡ guess-outcome A x g

@@ -1,7 +1,4 @@
 // Claybobbin: every entry open to callers, and nothing else is open. Each takes every input and refuses what is bad by number and place.
-mod checks;
-mod tables;
-
 use words::COUNT_LIMIT;
 use words::DIFFERS;
 use words::DONE;
@@ -30,12 +27,18 @@ pub struct Counted {
 pub fn echoes(a: usize, row: &[u8], out: &mut [u16]) -> Answer
     ensures { λ r. ⌜ (r .number, r .place, now (out .exit)) ≡ echoes-outcome a (now (row .entry)) (now (out .entry)) ⌝ }
 {
-    let answer = checks::row_and_slice(a, row, out.len());
-    if answer.number != DONE {
-        return answer;
+    let r = checks::row_and_slice(a, row, out.len());
+    if r.number != DONE {
+        return Answer {
+            number: r.number,
+            place: r.place,
+        };
     }
     rows::echoes(row, out);
-    answer
+    Answer {
+        number: r.number,
+        place: r.place,
+    }
 }
 
 // The looks of the row. Numbers 1, 2 and 4.
@@ -108,10 +111,16 @@ pub fn reach(a: usize, row: &[u8], out: &mut [u16]) -> Answer
 {
     let checked = checks::row_and_slice(a, row, out.len());
     if checked.number != DONE {
-        return checked;
+        return Answer {
+            number: checked.number,
+            place: checked.place,
+        };
     }
     rows::reach::reaches(row, out);
-    checked
+    Answer {
+        number: checked.number,
+        place: checked.place,
+    }
 }
 
 // Judges the array: 0, or the number and place of the first echo that does not stand. Numbers 1, 2, 5, 6 and 7.
@@ -120,9 +129,14 @@ pub fn judge(a: usize, e: &[u16]) -> Answer
 {
     let r = checks::sizes(a, LIMIT, e.len());
     if r.number != DONE {
-        return r;
+        return Answer {
+            number: r.number,
+            place: r.place,
+        };
     }
-    let v = arrays::judge(a, e);
+    let mut t = [0u16; 4096];
+    arrays::hold(e, &mut t);
+    let v = arrays::judge(a, &t, e.len());
     Answer {
         number: v.number,
         place: v.place,
@@ -135,16 +149,21 @@ pub fn rebuild(a: usize, e: &[u16], row: &mut [u8]) -> Answer
 {
     let r = checks::lent(a, e.len(), row.len());
     if r.number != DONE {
-        return r;
+        return Answer {
+            number: r.number,
+            place: r.place,
+        };
     }
-    let v = arrays::judge(a, e);
+    let mut t = [0u16; 4096];
+    arrays::hold(e, &mut t);
+    let v = arrays::judge(a, &t, e.len());
     if v.number != DONE {
         return Answer {
             number: v.number,
             place: v.place,
         };
     }
-    arrays::rebuild(a, e, row);
+    arrays::rebuild(a, &t, row);
     Answer {
         number: DONE,
         place: 0,
@@ -184,9 +203,16 @@ pub fn guess(a: usize, hidden: &[u8], guess: &[u8]) -> Answer
 {
     let r = checks::two_rows(a, hidden, guess);
     if r.number != DONE {
-        return r;
+        return Answer {
+            number: r.number,
+            place: r.place,
+        };
     }
-    checks::named(DIFFERS, tables::difference_within(hidden, guess))
+    let d = checks::named(DIFFERS, tables::difference_within(hidden, guess));
+    Answer {
+        number: d.number,
+        place: d.place,
+    }
 }
 
 // How many arrays of n places stand over a letters. Numbers 1 and 2, where 2 is for n over 20.
@@ -215,9 +241,14 @@ pub fn first(a: usize, n: usize, out: &mut [u16]) -> Answer
 {
     let r = checks::lent(a, n, out.len());
     if r.number != DONE {
-        return r;
+        return Answer {
+            number: r.number,
+            place: r.place,
+        };
     }
-    listing::first(a, out);
+    let mut t = [0u16; 4096];
+    listing::first(a, &mut t, n);
+    arrays::give(&t, out);
     Answer {
         number: DONE,
         place: 0,
@@ -230,16 +261,22 @@ pub fn next(a: usize, e: &mut [u16]) -> Answer
 {
     let r = checks::sizes(a, LIMIT, e.len());
     if r.number != DONE {
-        return r;
+        return Answer {
+            number: r.number,
+            place: r.place,
+        };
     }
-    let verdict = arrays::judge(a, e);
+    let mut t = [0u16; 4096];
+    arrays::hold(e, &mut t);
+    let verdict = arrays::judge(a, &t, e.len());
     if verdict.number != DONE {
         return Answer {
             number: verdict.number,
             place: verdict.place,
         };
     }
-    if listing::next(a, e) {
+    if listing::next(a, &mut t, e.len()) {
+        arrays::give(&t, e);
         Answer {
             number: DONE,
             place: 0,

@@ -1,14 +1,14 @@
 -- Bytes and the echoes that they stand for. Assumes nothing.
-use mathlib.Core.Path.{_≡_, refl, sym, ap, _∙_}
+use mathlib.Core.Path.{_≡_, refl, sym, ap, subst, _∙_}
 use mathlib.Core.List.{List, [], _∷_}
 use Prim.Native.Nat.{ℕ, zero, suc, _+_, _*_, _<_, _≤_}
 use native.Mathlib.Omega.{arith}
-use lib.ListN.{length, getD}
-use lib.Seq.{ext-getD}
+use native.Mathlib.Numerals.{add-one}
+use lib.ListN.{length, getD, take}
 use Rattle.words.specs.Lists.{at, placed}
 use Rattle.words.specs.Outcomes.{decoded}
-use Rattle.words.proofs.Lists.{either, same?, placed-long, placed-same, placed-other}
-use Rattle.host.specs.Decoding.{Decoding}
+use Rattle.words.specs.Numbers.{limit}
+use Rattle.arrays.proofs.Tables.{Copied, copied-more, held-done}
 
 pub decoded-long : (l : List ℕ) (n : ℕ) → length l ≡ 2 * n → length (decoded l) ≡ n
 unfolding decoded
@@ -28,24 +28,12 @@ decoded-at (low ∷ high ∷ l) (suc i) h =
     decoded-at l i (omega arith) ∙ ap (λ (m : ℕ). getD (low ∷ high ∷ l) m 0 + 256 * getD l (2 * i + 1) 0) p
     ∙ ap (λ (m : ℕ). getD (low ∷ high ∷ l) (2 * suc i) 0 + 256 * getD (low ∷ high ∷ l) m 0) q
 
--- the loop that decodes
-pub decode-start : (l e : List ℕ) → length l ≡ 2 * length e → Decoding l e 0
-decode-start l e h = record { whole = h; right = record { same = λ j g. absurd (omega arith) } }
+-- the loop that decodes: the first i echoes are in the table
+module _ {l t : List ℕ} {i : ℕ} (decoding : Copied (decoded l) t limit i) (n : ℕ) (bytes : length l ≡ 2 * n) (room : n ≤ limit) where
+  pub decode-more : (u : List ℕ) (low high v : ℕ) → i < n → low ≡ getD l (2 * i) 0 → high ≡ getD l (2 * i + 1) 0 → v ≡ low + 256 * high → u ≡ placed t (i + 1) v
+      → Copied (decoded l) u limit (i + 1)
+  decode-more u low high v h p q r = copied-more decoding u v (omega arith)
+      (sym (ap (at (decoded l)) (add-one i) ∙ decoded-at l i (omega arith) ∙ rw (← p, ← q) (sym r)))
 
-module _ {l e : List ℕ} {i : ℕ} (d : Decoding l e i) where
-  pub decode-more : (f : List ℕ) (low high k : ℕ) → i < length e → low ≡ getD l (2 * i) 0 → high ≡ getD l (2 * i + 1) 0 → k ≡ low + 256 * high → f ≡ placed e (i + 1) k
-      → Decoding l f (i + 1)
-  decode-more f low high k h p q r z =
-      record { whole = omega (arith, d .whole, ap length z, placed-long e (i + 1) k); right = record { same = λ j m. ap (λ (t : List ℕ). at t (suc j)) z ∙ entry j m } }
-    where
-      here : k ≡ at (decoded l) (suc i)
-      here = sym (decoded-at l i (omega (arith, d .whole)) ∙ rw (← p, ← q) (sym r))
-
-      entry : (j : ℕ) → j < i + 1 → at (placed e (i + 1) k) (suc j) ≡ at (decoded l) (suc j)
-      entry j m = either (same? (suc j) (i + 1))
-          (λ w. let v : suc i ≡ suc j = omega arith in ap (at (placed e (i + 1) k)) w ∙ placed-same e (i + 1) k (omega arith) (omega arith) ∙ here ∙ ap (at (decoded l)) v)
-          (λ n. placed-other e (i + 1) k (suc j) n ∙ d .right .same j (omega arith))
-
-  pub decode-done : length e ≤ i → e ≡ decoded l
-  unfolding at
-  decode-done h = ext-getD 0 e (decoded l) (sym (decoded-long l (length e) (d .whole))) (λ j m. d .right .same j (omega arith))
+  pub decode-done : n ≤ i → take n t ≡ decoded l
+  decode-done h = subst (λ (k : ℕ). take k t ≡ decoded l) (decoded-long l n bytes) (let e = decoded-long l n bytes in held-done decoding (omega arith) (omega arith))

@@ -1,4 +1,4 @@
 pub mod Decoding
-pub mod Answers
 pub mod Packing
+pub mod Answers
 pub mod Unique

@@ -21,7 +21,6 @@ use Rattle.arrays.proofs.Reasons.{reason-in, reason-refused}
 use Rattle.listing.proofs.Sizes.{count-fits}
 use Rattle.host.specs.Answers.{judge-answer}
 use Rattle.host.proofs.Decoding.{decoded-long}
-use Rattle.host.proofs.Answers.{verdict-place}
 
 -- number and place, number and count: two within their bounds that are packed alike are the same
 pub place-once : (n p m q : ℕ) → n < 256 → m < 256 → n + 256 * p ≡ m + 256 * q → (n ≡ m) × (p ≡ q)
@@ -48,6 +47,12 @@ verdict-number A e = either (judged A e)
     refused (inl z) = omega arith
     refused (inr (inl z)) = omega arith
     refused (inr (inr z)) = omega arith
+
+-- a place that a verdict names is one of the array's
+verdict-place : (A : ℕ) (e : List ℕ) → verdict A e .1 ≤ length e
+verdict-place A e = either (judged A e)
+    (λ d. omega (arith, ap (λ (r : ℕ × ℕ). r .1) (d .0)))
+    (λ b. omega (arith, b .within, ap (λ (r : ℕ × ℕ). r .1) (b .says)))
 
 -- number and place of judging are within their bounds
 abbrev Within : ℕ × ℕ → Type 0

@@ -1,2 +1,1 @@
-pub mod Decoding
 pub mod Answers

@@ -29,3 +29,9 @@ pub const LIMIT: usize = 4096;
 pub const COUNT_LIMIT: usize = 20;
 
 pub const FIRST_LETTER: u8 = b'a';
+
+// A number and its place: 0 at place 0, or why and where something is refused.
+pub struct Verdict {
+    pub number: u8,
+    pub place: usize,
+}

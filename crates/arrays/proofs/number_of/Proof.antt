@@ -26,10 +26,10 @@ returns-3 : tie.Need-returns-3
 returns-3 c = search (needs, later-more)
 
 returns-4 : tie.Need-returns-4
-returns-4 c = search (needs, later-fits)
+returns-4 c = search (needs, later-full)
 
 returns-5 : tie.Need-returns-5
-returns-5 c = search (needs, later-full)
+returns-5 c = search (needs, later-fits)
 
 pub number-of-spec : {M : Type 1} → statement M
 number-of-spec =
