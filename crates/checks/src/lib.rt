@@ -35,12 +35,12 @@ pub fn named(n: u8, p: usize) -> Verdict
 pub fn alphabet(a: usize) -> Verdict
     ensures { λ r. ⌜ (r .number, r .place) ≡ alphabetOf a ⌝ }
 {
-    if a == 0 {
+    if LETTERS < a {
         Verdict {
             number: ALPHABET,
             place: 0,
         }
-    } else if a <= LETTERS {
+    } else if 0 < a {
         Verdict {
             number: DONE,
             place: 0,

@@ -13,17 +13,17 @@ use Rattle.words.specs.Outcomes.{kept, given, answered, counted}
 use Rattle.words.specs.Numbers.{DONE, ALPHABET, LONG, MISMATCH, CARD, letters, firstLetter, letter, over, foreign, outside, differs, differing, named, unless, alphabet, long, matching, cards, refusal, sizes, lent, limit}
 use Rattle.words.proofs.Lists.{which, either, same?, not-both, every-in, every-out, places-in, places-out, first-places, both-out, both-true, both-left, both-right, first-start, first-here, first-more, first-none}
 
-pub alphabet-done : (A : ℕ) → (A ≡ 0 → ⊥) → A ≤ letters → (DONE, 0) ≡ alphabet A
+pub alphabet-done : (A : ℕ) → 0 < A → A ≤ letters → (DONE, 0) ≡ alphabet A
 unfolding alphabet unless
 alphabet-done A h l = rw (both-true (leb 1 A) (leb A letters) (le-leb 1 A (omega arith)) (le-leb A letters l))
 
-pub alphabet-none : (A : ℕ) → A ≡ 0 → (ALPHABET, 0) ≡ alphabet A
+pub alphabet-none : (A : ℕ) → A ≤ 0 → (ALPHABET, 0) ≡ alphabet A
 unfolding alphabet unless
 alphabet-none A z = rw (both-left (leb 1 A) (leb A letters) (lt-leb 1 A (omega arith)))
 
-pub alphabet-over : (A : ℕ) → letters < A → (ALPHABET, 0) ≡ alphabet A
+pub alphabet-over : (A m : ℕ) → m < A → letters ≤ m → (ALPHABET, 0) ≡ alphabet A
 unfolding alphabet unless
-alphabet-over A h = rw (both-right (leb 1 A) (leb A letters) (lt-leb A letters h))
+alphabet-over A m h l = rw (both-right (leb 1 A) (leb A letters) (lt-leb A letters (omega arith)))
 
 pub long-done : (most n : ℕ) → n ≤ most → (DONE, 0) ≡ long most n
 unfolding long unless
