@@ -21,8 +21,8 @@ use Rattle.words.proofs.Rows.{alike-part, alike-take, alike-sym}
 use Rattle.arrays.specs.Steps.{Passes, Possible, peak}
 use Rattle.arrays.proofs.Rules.{small-at, possible-range, possible-suc, possible-top, possible-part, possible-below, weighed-done, passes-sound, passes-part, sound-small, peak-low, peak-most}
 use Rattle.arrays.proofs.Reasons.{above}
-use Rattle.arrays.proofs.Alike.{weighed-alike, passes-alike, opens-alike}
-use Rattle.listing.specs.Values.{tried, Tries}
+use Rattle.arrays.proofs.Alike.{weighed-alike, passes-alike, opens-alike, behind-alike}
+use Rattle.listing.specs.Values.{extension, tried, Tries, Kept}
 use Rattle.listing.proofs.Sizes.{count-last, count-fits}
 use Rattle.listing.proofs.Few.{values-first, values-room, values-full}
 use Rattle.listing.proofs.Peak.{passes-suc, weighed-take, standing-in}
@@ -83,24 +83,28 @@ module _ (A : ℕ) (t : List ℕ) (i : ℕ) (passes : Passes A (at t) i) (within
 
 -- the sum over the values, as a sum from 0 up
 module _ (ok : List ℕ → ℕ → Bool) (r : ℕ) (p : List ℕ) where
+  extension-yes : (m : ℕ) → ok p m ≡ true → extension ok r p m ≡ countFrom ok r (more p m)
+  unfolding extension
+  extension-yes m t = rw t
+
+  extension-no : (m : ℕ) → ok p m ≡ false → extension ok r p m ≡ 0
+  unfolding extension
+  extension-no m t = rw t
+
   tried-run : (f c : ℕ) → sum (each (λ m. countFrom ok r (more p m)) (keep (ok p) (run c f))) + tried ok r p c ≡ tried ok r p (c + f)
   unfolding sum each keep run tried
   tried-run zero c = let z : c + 0 ≡ c = omega arith in rw z (omega arith)
   tried-run (suc f) c = let z : c + suc f ≡ suc c + f = omega arith in rw z (either (which (ok p c))
-      (λ t. let h = rw t at (tried-run f (suc c)) in rw t (omega (arith, h)))
-      (λ n. let h = rw n at (tried-run f (suc c)) in rw n (omega (arith, h))))
+      (λ t. rw t (omega (arith, tried-run f (suc c), extension-yes c t)))
+      (λ n. rw n (omega (arith, tried-run f (suc c), extension-no c n))))
 
   count-tried : countFrom ok (suc r) p ≡ tried ok r p (suc (length p))
   unfolding countFrom values tried
   count-tried = let z : 0 + suc (length p) ≡ suc (length p) = omega arith in let h = rw z at (tried-run (suc (length p)) 0) in omega (arith, h)
 
-  tried-yes : (m : ℕ) → ok p m ≡ true → tried ok r p (suc m) ≡ tried ok r p m + countFrom ok r (more p m)
+  tried-suc : (m : ℕ) → tried ok r p (suc m) ≡ tried ok r p m + extension ok r p m
   unfolding tried
-  tried-yes m t = rw t
-
-  tried-no : (m : ℕ) → ok p m ≡ false → tried ok r p (suc m) ≡ tried ok r p m
-  unfolding tried
-  tried-no m t = rw t (omega arith)
+  tried-suc m = refl
 
   -- no value from j up to k
   tried-skip : (j k : ℕ) → j ≤ k → ((m : ℕ) → j ≤ m → m < k → ok p m ≡ false) → tried ok r p k ≡ tried ok r p j
@@ -108,12 +112,11 @@ module _ (ok : List ℕ → ℕ → Bool) (r : ℕ) (p : List ℕ) where
   tried-skip (suc j) zero l h = absurd (omega arith)
   tried-skip j (suc k) l h = either (same? j (suc k))
       (λ e. ap (tried ok r p) (sym e))
-      (λ d. tried-no k (h k (omega arith) (omega arith)) ∙ tried-skip j k (omega arith) (λ m a b. h m a (omega arith)))
+      (λ d. omega (arith, tried-suc k, extension-no k (h k (omega arith) (omega arith)), tried-skip j k (omega arith) (λ m a b. h m a (omega arith))))
 
   tried-up : (k d : ℕ) → tried ok r p k ≤ tried ok r p (k + d)
-  unfolding tried
   tried-up k zero = let z : k + 0 ≡ k = omega arith in rw z (omega arith)
-  tried-up k (suc d) = let z : k + suc d ≡ suc (k + d) = omega arith in rw z (omega (arith, tried-up k d))
+  tried-up k (suc d) = let z : k + suc d ≡ suc (k + d) = omega arith in rw z (omega (arith, tried-suc (k + d), tried-up k d))
 
   tried-most : (k : ℕ) → k ≤ suc (length p) → tried ok r p k ≤ countFrom ok (suc r) p
   tried-most k l = let z : k + (suc (length p) - k) ≡ suc (length p) = omega arith in rw count-tried (rw z at (tried-up k (suc (length p) - k)))
@@ -189,7 +192,7 @@ module _ (A : ℕ) (t : List ℕ) (i n : ℕ) (long : length t ≡ limit) (most 
   count-near r z h = let s : n - i ≡ 1 = omega arith in h ∙ rw s
 
   module _ (k : ℕ) (inside : i ≤ n) (top : k ≡ peak (at t) i) where
-    pub open-falls : (x : ℕ) → (n - i) * 64 + 63 ≡ x → (n - i) * 64 + (k + k + 1) < x
+    pub open-falls : (x : ℕ) → (n - i) * 32 + 31 ≡ x → (n - i) * 32 + (k + 1) < x
     open-falls x z = omega (arith, peak-low i passes)
 
     module _ (some : i ≡ n → ⊥) where
@@ -202,80 +205,105 @@ module _ (A : ℕ) (t : List ℕ) (i n : ℕ) (long : length t ≡ limit) (most 
           h ∙ sym (rw (s, count-tried ok (n - (i + 1)) (take i t), length-take-le i t (omega arith))
           (tried-skip ok (n - (i + 1)) (take i t) (k + 1) (suc i) (omega (arith, peak-low i passes)) (λ m a b. no-value m (omega arith) (λ w. omega (arith, peak-most i m passes w)))))
 
--- the value m behind the first i places of t
-module _ (A : ℕ) (t : List ℕ) (i n m : ℕ) (tries : Tries A t i n m) where
-  abbrev sum-below : ℕ → ℕ
-  sum-below = tried (standing A) (n - (i + 1)) (take i t)
+-- the table keeps the first i places, whatever is written behind them
+pub kept-none : (t : List ℕ) (i : ℕ) → length t ≡ limit → Kept t t i
+kept-none t i l = record { long = l; same = refl }
 
-  value-in : m ≤ i
-  value-in = value-most (tries .passes) m (tries .value)
-
-  -- `try_below`
-  pub below-none : m ≡ 0 → 0 ≡ sum-below m
-  unfolding tried
-  below-none z = rw z
-
-  pub below-room : (m ≡ 0 → ⊥) → m - 1 ≤ limit
-  below-room d = omega (arith, tries .within, tries .most, value-in)
-
-  module _ (k : ℕ) (next : k ≡ peak (at t) (m - 1)) (some : m ≡ 0 → ⊥) where
-    pub below-falls : (x : ℕ) → (n - i) * 64 + (m + m) ≡ x → (n - i) * 64 + (k + k + 1) < x
-    below-falls x z = omega (arith, value-above (tries .passes) m (tries .value) (omega arith))
-
-    pub below-tries : Tries A t i n k
-    below-tries = record { within = tries .within; most = tries .most; long = tries .long; passes = tries .passes; value = rw next (next-value (tries .passes) m (tries .value) (omega arith)) }
-
-    pub below-some : (r : ℕ) → r ≡ sum-below (k + 1) → r ≡ sum-below m
-    below-some r h = h ∙ sym (tried-skip (standing A) (n - (i + 1)) (take i t) (k + 1) m (omega (arith, value-above (tries .passes) m (tries .value) (omega arith)))
-        (λ j a b. no-value A t i n (tries .long) (tries .most) (tries .passes) j (tries .within) (λ v. value-gap (tries .passes) m j (tries .value) (omega arith) b v)))
-
-  -- `try_values`: the table u has the first i places of t
-  module _ (u : List ℕ) (same : take i u ≡ take i t) where
-    pub tried-kept : Passes A (at u) i
-    tried-kept = passes-alike (alike-along t u i (sym same)) (tries .passes)
-
-    pub tried-small : m < 65536
-    tried-small = omega (arith, tries .within, tries .most, value-in)
-
-    module _ (long : length u ≡ limit) (w : ℕ) (is : w ≡ weighed A (at u) i m) where
-      pub tried-passes : (x : List ℕ) → x ≡ placed u (i + 1) m → w ≡ DONE → Passes A (at x) (i + 1)
-      tried-passes x q z = rw (q, add-one) (placed-passes A u i m (omega (arith, tries .within, tries .most)) tried-kept (sym is ∙ z))
-
-      module _ (rest : ℕ) (below : rest ≡ sum-below m) where
-        pub tried-out : (w ≡ DONE → ⊥) → rest ≡ sum-below (m + 1)
-        tried-out d = below ∙ rw (add-one m) (sym (tried-no (standing A) (n - (i + 1)) (take i t) m
-            (rw same at (no-value A u i n long (tries .most) tried-kept m (tries .within) (λ z. d (is ∙ z))))))
-
-        pub tried-in : (r : ℕ) (x : List ℕ) → w ≡ DONE → x ≡ placed u (i + 1) m → r ≡ countFrom (standing A) (n - (i + 1)) (take (i + 1) x) → rest + r ≡ sum-below (m + 1)
-        tried-in r x z q h = rw (
-          add-one m,
-          tried-yes (standing A) (n - (i + 1)) (take i t) m
-              (rw same at (yes-value A u i n long (tries .most) tried-kept m (tries .within) (sym is ∙ z))),
-          ← below,
-          ← counted,
-        )
-          where
-            counted : r ≡ countFrom (standing A) (n - (i + 1)) (more (take i t) m)
-            counted = h ∙ ap (countFrom (standing A) (n - (i + 1))) (ap (take (i + 1)) q ∙ placed-more u i m (omega (arith, tries .within, tries .most)) ∙ ap (λ (p : List ℕ). more p m) same)
+pub kept-on : (t u x : List ℕ) (i : ℕ) → Kept t u i → Kept u x i → Kept t x i
+kept-on t u x i k h = record { long = h .long; same = h .same ∙ k .same }
 
 pub take-placed : (i k v : ℕ) (t : List ℕ) → i ≤ k → take i (placed t (suc k) v) ≡ take i t
 unfolding placed
 take-placed i k v t l = take-set-le i t k v l
 
--- what is written behind the first i places leaves them
-pub kept-behind : (t u x y : List ℕ) (i m : ℕ) → take i u ≡ take i t → x ≡ placed u (i + 1) m → take (i + 1) y ≡ take (i + 1) x → take i y ≡ take i t
-kept-behind t u x y i m same q h = sym (take-take i (i + 1) y (omega arith)) ∙ ap (take i) (h ∙ ap (take (i + 1)) q)
-    ∙ take-take i (i + 1) _ (omega arith) ∙ rw add-one (take-placed i i m u (omega arith)) ∙ same
+pub kept-placed : (t x u : List ℕ) (i m : ℕ) → x ≡ placed t (i + 1) m → Kept x u (i + 1) → Kept t u i
+kept-placed t x u i m q h = record {
+  long = h .long;
+  same = sym (take-take i (i + 1) u (omega arith)) ∙ ap (take i) (h .same ∙ ap (take (i + 1)) q)
+      ∙ take-take i (i + 1) _ (omega arith) ∙ rw add-one (take-placed i i m t (omega arith));
+}
+
+-- the value m behind the first i places of t
+module _ (A : ℕ) (t : List ℕ) (i n m : ℕ) (tries : Tries A t i n m) where
+  value-in : m ≤ i
+  value-in = value-most (tries .passes) m (tries .value)
+
+  within : i < length t
+  within = omega (arith, tries .within, tries .most, tries .long)
+
+  -- `try_value`
+  pub tries-small : m < 65536
+  tries-small = omega (arith, tries .within, tries .most, value-in)
+
+  pub tries-none : Kept t t i
+  tries-none = kept-none t i (tries .long)
+
+  module _ (w : ℕ) (is : w ≡ weighed A (at t) i m) where
+    pub tried-passes : (x : List ℕ) → x ≡ placed t (i + 1) m → w ≡ DONE → Passes A (at x) (i + 1)
+    tried-passes x q z = rw (q, add-one) (placed-passes A t i m within (tries .passes) (sym is ∙ z))
+
+    pub value-yes : (r : ℕ) (x : List ℕ) → w ≡ DONE → x ≡ placed t (i + 1) m → r ≡ countFrom (standing A) (n - (i + 1)) (take (i + 1) x)
+        → r ≡ extension (standing A) (n - (i + 1)) (take i t) m
+    value-yes r x z q h = h ∙ ap (countFrom (standing A) (n - (i + 1))) (ap (take (i + 1)) q ∙ placed-more t i m within)
+        ∙ sym (extension-yes (standing A) (n - (i + 1)) (take i t) m (yes-value A t i n (tries .long) (tries .most) (tries .passes) m (tries .within) (sym is ∙ z)))
+
+    pub value-no : (w ≡ DONE → ⊥) → 0 ≡ extension (standing A) (n - (i + 1)) (take i t) m
+    value-no d = sym (extension-no (standing A) (n - (i + 1)) (take i t) m (no-value A t i n (tries .long) (tries .most) (tries .passes) m (tries .within) (λ z. d (is ∙ z))))
+
+-- `try_values`: the value m, then the next below it
+module _ (A : ℕ) (t : List ℕ) (i n m : ℕ) (tries : Tries A t i n m) where
+  pub tried-last : (here : ℕ) → here ≡ extension (standing A) (n - (i + 1)) (take i t) m → m ≡ 0 → here ≡ tried (standing A) (n - (i + 1)) (take i t) (m + 1)
+  unfolding tried
+  tried-last here e z = let s : m + 1 ≡ suc 0 = omega arith in e ∙ rw (s, z) (omega arith)
+
+  module _ (u : List ℕ) (kept : Kept t u i) (some : m ≡ 0 → ⊥) where
+    -- the value is possible in u too
+    tries-on : Tries A u i n m
+    unfolding Possible
+    tries-on = let a = alike-along t u i (sym (kept .same)) in record {
+      within = tries .within;
+      most = tries .most;
+      long = kept .long;
+      passes = passes-alike a (tries .passes);
+      value = either (tries .value) (λ z. inl z)
+          (λ (l, j). inr (l, subst (λ (v : List ℕ). In m v) (behind-alike a (sound-small i (passes-sound (tries .passes))) i l (omega arith)) j));
+    }
+
+    pub next-room : m - 1 ≤ limit
+    next-room = omega (arith, tries .within, tries .most, value-in A t i n m tries)
+
+    module _ (k : ℕ) (next : k ≡ peak (at u) (m - 1)) where
+      below : k < m
+      below = omega (arith, value-above (tries-on .passes) m (tries-on .value) (omega arith))
+
+      pub next-falls : (x : ℕ) → (n - i) * 32 + (m + 1) ≡ x → (n - i) * 32 + (k + 1) < x
+      next-falls x z = omega (arith, below)
+
+      pub next-tries : Tries A u i n k
+      next-tries = let s = tries-on in
+          record { within = s .within; most = s .most; long = s .long; passes = s .passes; value = rw next (next-value (s .passes) m (s .value) (omega arith)) }
+
+      pub tried-more : (here rest : ℕ) → here ≡ extension (standing A) (n - (i + 1)) (take i t) m → rest ≡ tried (standing A) (n - (i + 1)) (take i u) (k + 1)
+          → here + rest ≡ tried (standing A) (n - (i + 1)) (take i t) (m + 1)
+      tried-more here rest e h = rw (add-one m) (omega (arith, e, skipped, tried-suc (standing A) (n - (i + 1)) (take i t) m))
+        where
+          s : Tries A u i n m
+          s = tries-on
+
+          skipped : rest ≡ tried (standing A) (n - (i + 1)) (take i t) m
+          skipped = h ∙ sym (tried-skip (standing A) (n - (i + 1)) (take i u) (k + 1) m (omega (arith, below))
+              (λ j a b. no-value A u i n (s .long) (s .most) (s .passes) j (s .within) (λ v. value-gap (s .passes) m j (s .value) (omega arith) b v)))
+              ∙ ap (λ (p : List ℕ). tried (standing A) (n - (i + 1)) p m) (kept .same)
 
 -- no sum of counts is above 20!; the first premise shows every variable that the conclusion does not
-pub sum-fits : (A : ℕ) (t u : List ℕ) (i n m w rest r : ℕ) (x : List ℕ) → Tries A t i n m → take i u ≡ take i t → length u ≡ limit → w ≡ weighed A (at u) i m
-    → rest ≡ tried (standing A) (n - (i + 1)) (take i t) m → x ≡ placed u (i + 1) m → r ≡ countFrom (standing A) (n - (i + 1)) (take (i + 1) x) → w ≡ DONE → Fits w64 (rest + r)
-sum-fits A t u i n m w rest r x s same long is b q h z = let l = length-take-le i t (omega (arith, s .within, s .most, s .long)) in record {
+pub sum-fits : (A : ℕ) (t u : List ℕ) (i n m k here rest : ℕ) → Tries A t i n m → Kept t u i → k ≡ peak (at u) (m - 1) → here ≡ extension (standing A) (n - (i + 1)) (take i t) m
+    → rest ≡ tried (standing A) (n - (i + 1)) (take i u) (k + 1) → (m ≡ 0 → ⊥) → Fits w64 (here + rest)
+sum-fits A t u i n m k here rest s kept next e h some = let l = length-take-le i t (omega (arith, within A t i n m s)) in record {
   fits = omega (
     arith,
     s .within,
     s .most,
-    tried-in A t i n m s u same long w is rest b r x z q h,
+    tried-more A t i n m s u kept some k next here rest e h,
     tried-most (standing A) (n - (i + 1)) (take i t) (m + 1) (omega (arith, l, value-in A t i n m s)),
     count-fits (standing A) (suc (n - (i + 1))) (take i t) (omega (arith, l, s .within, s .most)),
   );

@@ -13,10 +13,18 @@ use Rattle.words.specs.Listing.{more, countFrom, Next, StandsAfter}
 use Rattle.words.proofs.Lists.{In}
 use Rattle.arrays.specs.Steps.{Passes, Sound, Possible, peak}
 
--- the sum of the counts behind p over the values below k
+-- the count of p with the value m behind it, 0 where that is not accepted; the sum of these over the values below k
+unfoldable pub extension : (List ℕ → ℕ → Bool) → ℕ → List ℕ → ℕ → ℕ
+extension ok r p m = cond (ok p m) (countFrom ok r (more p m)) 0
+
 unfoldable pub tried : (List ℕ → ℕ → Bool) → ℕ → List ℕ → ℕ → ℕ
 tried ok r p zero = 0
-tried ok r p (suc k) = tried ok r p k + cond (ok p k) (countFrom ok r (more p k)) 0
+tried ok r p (suc k) = tried ok r p k + extension ok r p k
+
+-- the table u has the first i places of the table t
+pub record Kept (t u : List ℕ) (i : ℕ) : Type 0 where
+  pub long : length u ≡ limit
+  pub same : take i u ≡ take i t
 
 -- what trying the value m behind the first i places of the table t asks, in counting arrays of n places
 pub record Tries (A : ℕ) (t : List ℕ) (i n m : ℕ) : Type 0 where

@@ -1,9 +1,8 @@
+-- `repeats`: one lemma of `Stepping` for each way out. Assumes nothing.
 use borrow.Author.Needs.{needs}
+use Rattle.listing.proofs.Stepping.{repeats-near, repeats-far}
 use Rattle.listing.proofs.repeats.Statement.{statement}
 use Rattle.listing.proofs.repeats.Tie as tie
-use Rattle.listing.proofs.repeats.Reads as reads
-use Rattle.listing.proofs.repeats.Lts as lts
-use Rattle.arrays.proofs.echo.Reads as echo-reads
 
 add-if1 : tie.Need-add-if1
 add-if1 c = search needs
@@ -18,10 +17,10 @@ echo-requires-2 : tie.Need-echo-requires-2
 echo-requires-2 c κs = search needs
 
 returns : tie.Need-returns
-returns c = search needs
+returns c = search (needs, repeats-far)
 
 returns-2 : tie.Need-returns-2
-returns-2 c = search needs
+returns-2 c = search (needs, repeats-near)
 
 pub repeats-spec : {M : Type 1} → statement M
 repeats-spec =
