@@ -25,7 +25,7 @@ use Rattle.listing.specs.Values.{Seeks, Lower, LeastValue, repeated, Low
 use Rattle.listing.proofs.Steps.{first-steps, last-steps, next-steps}
 use Rattle.listing.proofs.Standing.{least-first, least-next, after-stands}
 use Rattle.listing.proofs.Few.{only-peak}
-use Rattle.listing.proofs.Counting.{peak-possible, alike-along, placed-weighed, placed-passes, take-placed}
+use Rattle.listing.proofs.Counting.{peak-possible, kept-none, alike-along, placed-weighed, placed-passes, take-placed}
 use Rattle.listing.proofs.Covers.{lower-least}
 
 -- `repeats`
@@ -98,7 +98,7 @@ module _ (A : ℕ) (E : ℕ → ℕ) (i k : ℕ) (lows : Lows A E i k) where
 
 -- `fill`
 pub fill-none : (A : ℕ) (t : List ℕ) (i : ℕ) → length t ≡ limit → Passes A (at t) i → Filled A t t i i
-fill-none A t i l p = record { long = l; kept = refl; lows = record { passes = p; least = λ j a b m w. absurd (omega arith) } }
+fill-none A t i l p = record { kept = kept-none t i l; lows = record { passes = p; least = λ j a b m w. absurd (omega arith) } }
 
 module _ (A : ℕ) (t u : List ℕ) (i n k v : ℕ) (filled : Filled A t u i k) (value : LeastValue A (at u) k 0 v) (room : n ≤ limit) (inside : k < n) where
   passes : Passes A (at u) k
@@ -108,12 +108,11 @@ module _ (A : ℕ) (t u : List ℕ) (i n k v : ℕ) (filled : Filled A t u i k) 
   fill-small = omega (arith, value .least (peak (at u) k) (omega arith) (peak-stands k passes), peak-low k passes)
 
   within : k < length u
-  within = omega (arith, filled .long)
+  within = omega (arith, filled .kept .long)
 
   pub fill-more : (x : List ℕ) → x ≡ placed u (k + 1) v → i ≤ k → Filled A t x i (k + 1)
   fill-more x q l = rw (q, add-one) (record {
-    long = placed-long u (suc k) v ∙ filled .long;
-    kept = take-placed i k v u l ∙ filled .kept;
+    kept = record { long = placed-long u (suc k) v ∙ filled .kept .long; same = take-placed i k v u l ∙ filled .kept .same };
     lows = record {
       passes = placed-passes A u k v within passes (value .stands);
       least = λ j a b m w. either (same? j k)
@@ -158,7 +157,7 @@ module _ (A : ℕ) (t : List ℕ) (n : ℕ) (room : n ≤ limit) (whole : length
 -- `first`
 pub first-done : (A : ℕ) (t u : List ℕ) (n : ℕ) → Filled A t u 0 n → 0 < A → n ≤ limit → First A n (take n u)
 first-done A t u n h pos l = least-first A n (take n u) (first-steps (Stands A) (take n u) n
-    (record { is = array-stands A u n l (h .long) pos (h .lows .passes); long = array-long A u n l (h .long) }) (array-lowest A u n l (h .long) 0 (h .lows)))
+    (record { is = array-stands A u n l (h .kept .long) pos (h .lows .passes); long = array-long A u n l (h .kept .long) }) (array-lowest A u n l (h .kept .long) 0 (h .lows)))
 
 -- `turn`
 pub turn-start : (E : ℕ → ℕ) (n i : ℕ) → i ≡ n → Highs E n i
@@ -206,7 +205,7 @@ module _ (A : ℕ) (t : List ℕ) (k m p : ℕ) (is : m ≡ at t (k + 1)) (passe
       raise-done u filled = record { value = rw (has, ← is) value; filled = rw has (subst (λ (y : List ℕ). Filled A y u (k + 1) n) put filled) }
         where
           has : at u (k + 1) ≡ v
-          has = ap (at u) (add-one k) ∙ alike-along u x (k + 1) (filled .kept) .same k (omega arith) ∙ ap (λ (y : List ℕ). at y (suc k)) put
+          has = ap (at u) (add-one k) ∙ alike-along u x (k + 1) (filled .kept .same) .same k (omega arith) ∙ ap (λ (y : List ℕ). at y (suc k)) put
               ∙ rw add-one (placed-same t (suc k) v (omega arith) room-there)
 
 -- `next`
@@ -245,7 +244,7 @@ module _ (A : ℕ) (t : List ℕ) (n : ℕ) (room : n ≤ limit) (whole : length
         old = array-long A t n room whole
 
         new : length (take n u) ≡ n
-        new = array-long A u n room (filled .long)
+        new = array-long A u n room (filled .kept .long)
 
         was : getD (take n t) (k - 1) 0 ≡ getD t (k - 1) 0
         was = getD-take n t (k - 1) 0 turn-in
@@ -254,11 +253,11 @@ module _ (A : ℕ) (t : List ℕ) (n : ℕ) (room : n ≤ limit) (whole : length
         is = getD-take n u (k - 1) 0 turn-in
 
         sized : Sized (Stands A) (length (take n t)) (take n u)
-        sized = record { is = array-stands A u n room (filled .long) pos (filled .lows .passes); long = new ∙ sym old }
+        sized = record { is = array-stands A u n room (filled .kept .long) pos (filled .lows .passes); long = new ∙ sym old }
 
         same : take (k - 1) t ≡ take (k - 1) u
         same = sym (take-placed (k - 1) (k - 1) (getD u (k - 1) 0) t (omega arith))
-            ∙ sym (take-take (k - 1) (suc (k - 1)) _ (omega arith)) ∙ ap (take (k - 1)) (sym (filled .kept)) ∙ take-take (k - 1) (suc (k - 1)) u (omega arith)
+            ∙ sym (take-take (k - 1) (suc (k - 1)) _ (omega arith)) ∙ ap (take (k - 1)) (sym (filled .kept .same)) ∙ take-take (k - 1) (suc (k - 1)) u (omega arith)
 
         parts : Parts (take n t) (take n u) (k - 1)
         parts = record {
@@ -270,7 +269,7 @@ module _ (A : ℕ) (t : List ℕ) (n : ℕ) (room : n ≤ limit) (whole : length
         pub next-done : Stepped A (take n t) (take n u) true
         next-done = stepped refl (least-next A (take n t) (take n u) (next-steps (Stands A) (take n t) (take n u) (k - 1) sized parts
             (subst (λ (j : ℕ). Highest (Stands A) (take n t) j) (omega arith) highest)
-            (array-lowest A u n room (filled .long) (suc (k - 1)) (filled .lows))
+            (array-lowest A u n room (filled .kept .long) (suc (k - 1)) (filled .lows))
             (λ z s q g. rw is (raises .least (getD z (k - 1) 0) (omega (arith, was)) (member-weighed A t n room whole z (k - 1) s (omega (arith, old, turn-in)) q)))))
 
 -- what the step says, for an entry

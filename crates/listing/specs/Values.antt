@@ -69,8 +69,7 @@ pub record Lows (A : ℕ) (E : ℕ → ℕ) (i k : ℕ) : Type 0 where
 
 -- the table u has the first i places of t, and behind them the least values up to the k-th
 pub record Filled (A : ℕ) (t u : List ℕ) (i k : ℕ) : Type 0 where
-  pub long : length u ≡ limit
-  pub kept : take i u ≡ take i t
+  pub kept : Kept t u i
   pub lows : Lows A (at u) i k
 
 -- of the places from the i-th to the n-th each has the greatest value; r is the last of n places that has not, 0 where each has it
