@@ -1,4 +1,4 @@
--- Counting in the code's terms: the values at a place, tried from the greatest down the chain. Assumes nothing.
+-- Counting in the code's terms: the values at a place, tried from the greatest down the chain, in one table. Assumes nothing.
 use mathlib.Core.Path.{_≡_, refl, sym, ap, subst, _∙_}
 use mathlib.Core.Bool.{Bool, true, false}
 use mathlib.Core.Logic.{_⊎_, inl, inr}
@@ -7,25 +7,25 @@ use Prim.Native.Nat.{ℕ, zero, suc, _+_, _-_, _*_, _≤_, _<_}
 use native.Mathlib.Omega.{arith}
 use native.Mathlib.Numerals.{add-one, sub-one}
 use lib.ListN.{length, take}
-use lib.Seq.{length-take-le, take-suc-set}
+use lib.Seq.{length-take-le, take-suc-set, take-take, take-set-le}
 use mir.Syntax.{w64}
 use mir.Val.{Fits}
 use borrow.Author.Tests.{ne-eqb}
 use Rattle.words.specs.Lists.{each, keep, sum, run, at, placed}
 use Rattle.words.specs.Rows.{Small, Alike}
-use Rattle.words.specs.Numbers.{DONE}
+use Rattle.words.specs.Numbers.{DONE, limit}
 use Rattle.words.specs.Stand.{possible, opens, weighed}
 use Rattle.words.specs.Listing.{more, values, countFrom, standing, count}
 use Rattle.words.proofs.Lists.{which, either, same?, In, there, placed-same, placed-other}
-use Rattle.words.proofs.Rows.{alike-part, alike-take}
-use Rattle.arrays.specs.Steps.{Passes, Sound, Possible}
-use Rattle.arrays.proofs.Rules.{small-at, possible-range, possible-suc, possible-top, possible-part, possible-below, weighed-done, passes-sound, passes-part, sound-small}
+use Rattle.words.proofs.Rows.{alike-part, alike-take, alike-sym}
+use Rattle.arrays.specs.Steps.{Passes, Possible, peak}
+use Rattle.arrays.proofs.Rules.{small-at, possible-range, possible-suc, possible-top, possible-part, possible-below, weighed-done, passes-sound, passes-part, sound-small, peak-low, peak-most}
 use Rattle.arrays.proofs.Reasons.{above}
-use Rattle.arrays.proofs.Alike.{weighed-alike, passes-alike, opens-alike}
-use Rattle.listing.specs.Values.{peak, tried, Tries}
+use Rattle.arrays.proofs.Alike.{weighed-alike, passes-alike, opens-alike, behind-alike}
+use Rattle.listing.specs.Values.{extension, tried, Tries, Kept}
 use Rattle.listing.proofs.Sizes.{count-last, count-fits}
 use Rattle.listing.proofs.Few.{values-first, values-room, values-full}
-use Rattle.listing.proofs.Peak.{passes-suc, weighed-take, standing-in, peak-low, peak-most}
+use Rattle.listing.proofs.Peak.{passes-suc, weighed-take, standing-in}
 
 -- `peak_at`
 pub peak-none : (E : ℕ → ℕ) (i : ℕ) → i ≡ 0 → 0 ≡ peak E i
@@ -36,6 +36,10 @@ pub peak-some : (E : ℕ → ℕ) (i r : ℕ) → r ≡ E i → (i ≡ 0 → ⊥
 unfolding peak
 peak-some E zero r e d = absurd (d refl)
 peak-some E (suc i) r e d = rw (e, add-one)
+
+-- two tables that go along for n places have the same echoes there
+pub alike-along : (t u : List ℕ) (n : ℕ) → take n t ≡ take n u → Alike (at t) (at u) n
+alike-along t u n e = record { same = λ i h. alike-take t n .same i h ∙ ap (λ (x : List ℕ). at x (suc i)) e ∙ alike-sym (alike-take u n) .same i h }
 
 -- one place written
 pub placed-alike : (e : List ℕ) (i m : ℕ) → Alike (at e) (at (placed e (suc i) m)) i
@@ -53,74 +57,69 @@ unfolding more placed
 placed-more e i m h = rw add-one (take-suc-set e i m h)
 
 -- `count_values`: the open values, and zero where they are fewer than A
-module _ (A : ℕ) (e : List ℕ) (i : ℕ) (passes : Passes A (at e) i) (within : i < length e) where
-  pub values-none : i ≡ 0 → 1 ≡ countFrom (standing A) 1 (take i e)
+module _ (A : ℕ) (t : List ℕ) (i : ℕ) (passes : Passes A (at t) i) (within : i ≤ limit) (long : length t ≡ limit) where
+  pub values-none : i ≡ 0 → 1 ≡ countFrom (standing A) 1 (take i t)
   values-none z = rw z (sym (count-last (standing A) [] ∙ values-first A))
 
-  pub values-before : (b : ℕ) → (i ≡ 0 → ⊥) → b ≡ at e i → b < length e
-  values-before b d is = omega (arith, small-at (sound-small i (passes-sound passes)) i (omega arith) (omega arith))
-
-  module _ (b k : ℕ) (later : i ≡ 0 → ⊥) (is : b ≡ at e i) (opened : k ≡ length (opens (at e) b)) where
+  module _ (b k : ℕ) (later : i ≡ 0 → ⊥) (is : b ≡ at t i) (opened : k ≡ length (opens (at t) b)) where
     -- the first i places as an array of their own
-    behind : (P : ℕ → List ℕ → Type 0) → ((p : List ℕ) (n : ℕ) → length p ≡ suc n → Passes A (at p) (suc n) → k ≡ length (opens (at p) (at p (suc n))) → P k p) → P k (take i e)
+    behind : (P : ℕ → List ℕ → Type 0) → ((p : List ℕ) (n : ℕ) → length p ≡ suc n → Passes A (at p) (suc n) → k ≡ length (opens (at p) (at p (suc n))) → P k p) → P k (take i t)
     behind P by = go i refl later
       where
-        go : (j : ℕ) → i ≡ j → (j ≡ 0 → ⊥) → P k (take i e)
+        go : (j : ℕ) → i ≡ j → (j ≡ 0 → ⊥) → P k (take i t)
         go zero z d = absurd (d refl)
         go (suc n) z d =
-            let a = alike-take e i in
+            let a = alike-take t i in
             let s = sound-small i (passes-sound passes) in
-            let h : at e i ≡ at (take i e) (suc n) = ap (at e) z ∙ a .same n (omega arith) in
-            by (take i e) n (length-take-le i e (omega arith) ∙ z) (subst (λ (x : ℕ). Passes A (at (take i e)) x) z (passes-alike a passes))
-            (opened ∙ ap length (ap (opens (at e)) is ∙ opens-alike a s (at e i) (small-at s i (omega arith) (omega arith)) ∙ ap (opens (at (take i e))) h))
+            let h : at t i ≡ at (take i t) (suc n) = ap (at t) z ∙ a .same n (omega arith) in
+            by (take i t) n (length-take-le i t (omega arith) ∙ z) (subst (λ (x : ℕ). Passes A (at (take i t)) x) z (passes-alike a passes))
+            (opened ∙ ap length (ap (opens (at t)) is ∙ opens-alike a s (at t i) (small-at s i (omega arith) (omega arith)) ∙ ap (opens (at (take i t))) h))
 
-    pub values-more : (r : ℕ) → k < A → r ≡ k + 1 → r ≡ countFrom (standing A) 1 (take i e)
-    values-more r l h = h ∙ behind (λ k p. k + 1 ≡ countFrom (standing A) 1 p) (λ p n g s o. rw add-one (sym (count-last (standing A) p ∙ values-room p n g s (omega (arith, l)) ∙ ap suc (sym o))))
+    pub values-more : k < A → k + 1 ≡ countFrom (standing A) 1 (take i t)
+    values-more l = behind (λ k p. k + 1 ≡ countFrom (standing A) 1 p) (λ p n g s o. rw add-one (sym (count-last (standing A) p ∙ values-room p n g s (omega (arith, l)) ∙ ap suc (sym o))))
 
-    pub values-all : (r : ℕ) → A ≤ k → r ≡ k → r ≡ countFrom (standing A) 1 (take i e)
-    values-all r l h = h ∙ behind (λ k p. k ≡ countFrom (standing A) 1 p) (λ p n g s o. sym (count-last (standing A) p ∙ values-full p n g s (omega (arith, l)) ∙ sym o))
+    pub values-all : A ≤ k → k ≡ countFrom (standing A) 1 (take i t)
+    values-all l = behind (λ k p. k ≡ countFrom (standing A) 1 p) (λ p n g s o. sym (count-last (standing A) p ∙ values-full p n g s (omega (arith, l)) ∙ sym o))
 
 -- the sum over the values, as a sum from 0 up
 module _ (ok : List ℕ → ℕ → Bool) (r : ℕ) (p : List ℕ) where
-  tried-run : (f c : ℕ) → sum (each (λ m. countFrom ok r (more p m)) (keep (ok p) (run (suc c) f))) + tried ok r p c ≡ tried ok r p (c + f)
+  extension-yes : (m : ℕ) → ok p m ≡ true → extension ok r p m ≡ countFrom ok r (more p m)
+  unfolding extension
+  extension-yes m t = rw t
+
+  extension-no : (m : ℕ) → ok p m ≡ false → extension ok r p m ≡ 0
+  unfolding extension
+  extension-no m t = rw t
+
+  tried-run : (f c : ℕ) → sum (each (λ m. countFrom ok r (more p m)) (keep (ok p) (run c f))) + tried ok r p c ≡ tried ok r p (c + f)
   unfolding sum each keep run tried
   tried-run zero c = let z : c + 0 ≡ c = omega arith in rw z (omega arith)
-  tried-run (suc f) c = let z : c + suc f ≡ suc c + f = omega arith in rw z (either (which (ok p (suc c)))
-      (λ t. let h = rw t at (tried-run f (suc c)) in rw t (omega (arith, h)))
-      (λ n. let h = rw n at (tried-run f (suc c)) in rw n (omega (arith, h))))
+  tried-run (suc f) c = let z : c + suc f ≡ suc c + f = omega arith in rw z (either (which (ok p c))
+      (λ t. rw t (omega (arith, tried-run f (suc c), extension-yes c t)))
+      (λ n. rw n (omega (arith, tried-run f (suc c), extension-no c n))))
 
-  count-tried : countFrom ok (suc r) p ≡ tried ok r p (length p)
-  unfolding countFrom values sum each keep run tried
-  count-tried = let z : 0 + length p ≡ length p = omega arith in let h = rw z at (tried-run (length p) 0) in either (which (ok p 0))
-      (λ t. let k = rw t at h in rw t (omega (arith, k)))
-      (λ n. let k = rw n at h in rw n (omega (arith, k)))
+  count-tried : countFrom ok (suc r) p ≡ tried ok r p (suc (length p))
+  unfolding countFrom values tried
+  count-tried = let z : 0 + suc (length p) ≡ suc (length p) = omega arith in let h = rw z at (tried-run (suc (length p)) 0) in omega (arith, h)
 
-  tried-yes : (m : ℕ) → 0 < m → ok p m ≡ true → tried ok r p m ≡ tried ok r p (m - 1) + countFrom ok r (more p m)
+  tried-suc : (m : ℕ) → tried ok r p (suc m) ≡ tried ok r p m + extension ok r p m
   unfolding tried
-  tried-yes zero l t = absurd (omega arith)
-  tried-yes (suc m) l t = rw (t, sub-one)
+  tried-suc m = refl
 
-  tried-no : (m : ℕ) → 0 < m → ok p m ≡ false → tried ok r p m ≡ tried ok r p (m - 1)
-  unfolding tried
-  tried-no zero l t = absurd (omega arith)
-  tried-no (suc m) l t = rw (t, sub-one) (omega arith)
-
-  -- no value between j and k
-  tried-skip : (j k : ℕ) → j ≤ k → ((m : ℕ) → j < m → m ≤ k → ok p m ≡ false) → tried ok r p k ≡ tried ok r p j
-  unfolding tried
+  -- no value from j up to k
+  tried-skip : (j k : ℕ) → j ≤ k → ((m : ℕ) → j ≤ m → m < k → ok p m ≡ false) → tried ok r p k ≡ tried ok r p j
   tried-skip zero zero l h = refl
   tried-skip (suc j) zero l h = absurd (omega arith)
   tried-skip j (suc k) l h = either (same? j (suc k))
       (λ e. ap (tried ok r p) (sym e))
-      (λ d. rw (h (suc k) (omega arith) (omega arith)) (omega (arith, tried-skip j k (omega arith) (λ m a b. h m a (omega arith)))))
+      (λ d. omega (arith, tried-suc k, extension-no k (h k (omega arith) (omega arith)), tried-skip j k (omega arith) (λ m a b. h m a (omega arith))))
 
   tried-up : (k d : ℕ) → tried ok r p k ≤ tried ok r p (k + d)
-  unfolding tried
   tried-up k zero = let z : k + 0 ≡ k = omega arith in rw z (omega arith)
-  tried-up k (suc d) = let z : k + suc d ≡ suc (k + d) = omega arith in rw z (omega (arith, tried-up k d))
+  tried-up k (suc d) = let z : k + suc d ≡ suc (k + d) = omega arith in rw z (omega (arith, tried-suc (k + d), tried-up k d))
 
-  tried-most : (k : ℕ) → k ≤ length p → tried ok r p k ≤ countFrom ok (suc r) p
-  tried-most k l = let z : k + (length p - k) ≡ length p = omega arith in rw count-tried (rw z at (tried-up k (length p - k)))
+  tried-most : (k : ℕ) → k ≤ suc (length p) → tried ok r p k ≤ countFrom ok (suc r) p
+  tried-most k l = let z : k + (suc (length p) - k) ≡ suc (length p) = omega arith in rw count-tried (rw z at (tried-up k (suc (length p) - k)))
 
 -- a possible value and the next below it, behind the first i places
 module _ {A : ℕ} {E : ℕ → ℕ} {i : ℕ} (passes : Passes A E i) where
@@ -172,111 +171,141 @@ module _ {A : ℕ} {E : ℕ → ℕ} {i : ℕ} (passes : Passes A E i) where
       (λ e. omega arith)
       (λ r. omega (arith, gap m j l (value-most m h) q (r .1) b))
 
--- the first i places of e stand
-module _ (A : ℕ) (e : List ℕ) (i n : ℕ) (long : length e ≡ 20) (most : n ≤ 20) (passes : Passes A (at e) i) where
+-- the first i places of t stand
+module _ (A : ℕ) (t : List ℕ) (i n : ℕ) (long : length t ≡ limit) (most : n ≤ 20) (passes : Passes A (at t) i) where
   abbrev ok : List ℕ → ℕ → Bool
   ok = standing A
 
-  no-value : (m : ℕ) → i < n → (weighed A (at e) i m ≡ DONE → ⊥) → ok (take i e) m ≡ false
+  no-value : (m : ℕ) → i < n → (weighed A (at t) i m ≡ DONE → ⊥) → ok (take i t) m ≡ false
   unfolding standing
-  no-value m h d = ne-eqb _ _ (λ z. d (sym (weighed-take A e i m (omega arith) passes) ∙ z))
+  no-value m h d = ne-eqb _ _ (λ z. d (sym (weighed-take A t i m (omega arith) passes) ∙ z))
 
-  yes-value : (m : ℕ) → i < n → weighed A (at e) i m ≡ DONE → ok (take i e) m ≡ true
-  yes-value m h z = standing-in A (take i e) m (weighed-take A e i m (omega arith) passes ∙ z)
+  yes-value : (m : ℕ) → i < n → weighed A (at t) i m ≡ DONE → ok (take i t) m ≡ true
+  yes-value m h z = standing-in A (take i t) m (weighed-take A t i m (omega arith) passes ∙ z)
 
   -- `count_prefix`
-  pub count-full : i ≡ n → 1 ≡ countFrom ok (n - i) (take i e)
+  pub count-full : i ≡ n → 1 ≡ countFrom ok (n - i) (take i t)
   unfolding countFrom
   count-full z = let h : n - i ≡ 0 = omega arith in rw h
 
-  pub count-open : (k r : ℕ) → i ≤ n → (i ≡ n → ⊥) → k ≡ peak (at e) i → r ≡ tried ok (n - (i + 1)) (take i e) k → r ≡ countFrom ok (n - i) (take i e)
-  count-open k r l d z h =
-      let s : n - i ≡ suc (n - (i + 1)) = omega arith in
-      h ∙ sym (rw (s, count-tried ok (n - (i + 1)) (take i e), length-take-le i e (omega arith))
-      (tried-skip ok (n - (i + 1)) (take i e) k i (omega (arith, peak-low i passes)) (λ m a b. no-value m (omega arith) (λ w. omega (arith, peak-most i m passes w)))))
-
-  pub count-near : (r : ℕ) → i + 1 ≡ n → r ≡ countFrom ok 1 (take i e) → r ≡ countFrom ok (n - i) (take i e)
+  pub count-near : (r : ℕ) → i + 1 ≡ n → r ≡ countFrom ok 1 (take i t) → r ≡ countFrom ok (n - i) (take i t)
   count-near r z h = let s : n - i ≡ 1 = omega arith in h ∙ rw s
 
-  pub open-falls : (k t : ℕ) → i ≤ n → (n - i) * 32 + 31 ≡ t → k ≡ peak (at e) i → (n - i) * 32 + k < t
-  open-falls k t l z h = omega (arith, peak-low i passes)
+  module _ (k : ℕ) (inside : i ≤ n) (top : k ≡ peak (at t) i) where
+    pub open-falls : (x : ℕ) → (n - i) * 32 + 31 ≡ x → (n - i) * 32 + (k + 1) < x
+    open-falls x z = omega (arith, peak-low i passes)
 
-  pub open-tries : (k : ℕ) → i ≤ n → (i ≡ n → ⊥) → k ≡ peak (at e) i → Tries A e i n k
-  open-tries k l d z = record { within = omega arith; most = most; long = long; passes = passes; value = rw z (peak-possible passes) }
+    module _ (some : i ≡ n → ⊥) where
+      pub open-tries : Tries A t i n k
+      open-tries = record { within = omega arith; most = most; long = long; passes = passes; value = rw top (peak-possible passes) }
 
--- `try_values`: the value m, and f with it written
-module _ (A : ℕ) (e : List ℕ) (i n m : ℕ) (tries : Tries A e i n m) where
-  within : i < length e
+      pub count-open : (r : ℕ) → r ≡ tried ok (n - (i + 1)) (take i t) (k + 1) → r ≡ countFrom ok (n - i) (take i t)
+      count-open r h =
+          let s : n - i ≡ suc (n - (i + 1)) = omega arith in
+          h ∙ sym (rw (s, count-tried ok (n - (i + 1)) (take i t), length-take-le i t (omega arith))
+          (tried-skip ok (n - (i + 1)) (take i t) (k + 1) (suc i) (omega (arith, peak-low i passes)) (λ m a b. no-value m (omega arith) (λ w. omega (arith, peak-most i m passes w)))))
+
+-- the table keeps the first i places, whatever is written behind them
+pub kept-none : (t : List ℕ) (i : ℕ) → length t ≡ limit → Kept t t i
+kept-none t i l = record { long = l; same = refl }
+
+pub kept-on : (t u x : List ℕ) (i : ℕ) → Kept t u i → Kept u x i → Kept t x i
+kept-on t u x i k h = record { long = h .long; same = h .same ∙ k .same }
+
+pub take-placed : (i k v : ℕ) (t : List ℕ) → i ≤ k → take i (placed t (suc k) v) ≡ take i t
+unfolding placed
+take-placed i k v t l = take-set-le i t k v l
+
+pub kept-placed : (t x u : List ℕ) (i m : ℕ) → x ≡ placed t (i + 1) m → Kept x u (i + 1) → Kept t u i
+kept-placed t x u i m q h = record {
+  long = h .long;
+  same = sym (take-take i (i + 1) u (omega arith)) ∙ ap (take i) (h .same ∙ ap (take (i + 1)) q)
+      ∙ take-take i (i + 1) _ (omega arith) ∙ rw add-one (take-placed i i m t (omega arith));
+}
+
+-- the value m behind the first i places of t
+module _ (A : ℕ) (t : List ℕ) (i n m : ℕ) (tries : Tries A t i n m) where
+  value-in : m ≤ i
+  value-in = value-most (tries .passes) m (tries .value)
+
+  within : i < length t
   within = omega (arith, tries .within, tries .most, tries .long)
 
-  pub tries-room : (k : ℕ) → k ≡ 20 → i + 1 ≤ k
-  tries-room k z = omega (arith, tries .within, tries .most)
-
-  tries-in : i < 20
-  tries-in = omega (arith, tries .within, tries .most)
-
+  -- `try_value`
   pub tries-small : m < 65536
-  tries-small = omega (arith, tries-in, value-most (tries .passes) m (tries .value))
+  tries-small = omega (arith, tries .within, tries .most, value-in)
 
-  pub tries-sound : (m ≡ 0 → ⊥) → Sound (at e) (m - 1)
-  tries-sound d = passes-sound (passes-part (m - 1) (omega (arith, value-most (tries .passes) m (tries .value))) (tries .passes))
+  pub tries-none : Kept t t i
+  tries-none = kept-none t i (tries .long)
 
-  pub tries-below : (n : ℕ) → n ≡ 20 → m - 1 ≤ n
-  tries-below n z = omega (arith, tries-in, value-most (tries .passes) m (tries .value))
+  module _ (w : ℕ) (is : w ≡ weighed A (at t) i m) where
+    pub tried-passes : (x : List ℕ) → x ≡ placed t (i + 1) m → w ≡ DONE → Passes A (at x) (i + 1)
+    tried-passes x q z = rw (q, add-one) (placed-passes A t i m within (tries .passes) (sym is ∙ z))
 
-  -- the next value below
-  module _ (k : ℕ) (next : k ≡ peak (at e) (m - 1)) (above : m ≡ 0 → ⊥) where
-    pub next-falls : (t : ℕ) → (n - i) * 32 + m ≡ t → (n - i) * 32 + k < t
-    next-falls t z = omega (arith, value-above (tries .passes) m (tries .value) (omega arith))
+    pub value-yes : (r : ℕ) (x : List ℕ) → w ≡ DONE → x ≡ placed t (i + 1) m → r ≡ countFrom (standing A) (n - (i + 1)) (take (i + 1) x)
+        → r ≡ extension (standing A) (n - (i + 1)) (take i t) m
+    value-yes r x z q h = h ∙ ap (countFrom (standing A) (n - (i + 1))) (ap (take (i + 1)) q ∙ placed-more t i m within)
+        ∙ sym (extension-yes (standing A) (n - (i + 1)) (take i t) m (yes-value A t i n (tries .long) (tries .most) (tries .passes) m (tries .within) (sym is ∙ z)))
 
-    pub next-tries : Tries A e i n k
-    next-tries = record { within = tries .within; most = tries .most; long = tries .long; passes = tries .passes; value = rw next (next-value (tries .passes) m (tries .value) (omega arith)) }
+    pub value-no : (w ≡ DONE → ⊥) → 0 ≡ extension (standing A) (n - (i + 1)) (take i t) m
+    value-no d = sym (extension-no (standing A) (n - (i + 1)) (take i t) m (no-value A t i n (tries .long) (tries .most) (tries .passes) m (tries .within) (λ z. d (is ∙ z))))
 
-  module _ (w : ℕ) (is : w ≡ weighed A (at e) i m) where
-    pub tried-passes : (f : List ℕ) → f ≡ placed e (i + 1) m → w ≡ DONE → Passes A (at f) (i + 1)
-    tried-passes f q z = rw (q, add-one) (placed-passes A e i m within (tries .passes) (sym is ∙ z))
+-- `try_values`: the value m, then the next below it
+module _ (A : ℕ) (t : List ℕ) (i n m : ℕ) (tries : Tries A t i n m) where
+  pub tried-last : (here : ℕ) → here ≡ extension (standing A) (n - (i + 1)) (take i t) m → m ≡ 0 → here ≡ tried (standing A) (n - (i + 1)) (take i t) (m + 1)
+  unfolding tried
+  tried-last here e z = let s : m + 1 ≡ suc 0 = omega arith in e ∙ rw (s, z) (omega arith)
 
-    counted : (r : ℕ) (f : List ℕ) → f ≡ placed e (i + 1) m → r ≡ countFrom (standing A) (n - (i + 1)) (take (i + 1) f) → r ≡ countFrom (standing A) (n - (i + 1)) (more (take i e) m)
-    counted r f q h = h ∙ ap (countFrom (standing A) (n - (i + 1))) (ap (take (i + 1)) q ∙ placed-more e i m within)
+  module _ (u : List ℕ) (kept : Kept t u i) (some : m ≡ 0 → ⊥) where
+    -- the value is possible in u too
+    tries-on : Tries A u i n m
+    unfolding Possible
+    tries-on = let a = alike-along t u i (sym (kept .same)) in record {
+      within = tries .within;
+      most = tries .most;
+      long = kept .long;
+      passes = passes-alike a (tries .passes);
+      value = either (tries .value) (λ z. inl z)
+          (λ (l, j). inr (l, subst (λ (v : List ℕ). In m v) (behind-alike a (sound-small i (passes-sound (tries .passes))) i l (omega arith)) j));
+    }
 
-    yes : w ≡ DONE → standing A (take i e) m ≡ true
-    yes z = yes-value A e i n (tries .long) (tries .most) (tries .passes) m (tries .within) (sym is ∙ z)
+    pub next-room : m - 1 ≤ limit
+    next-room = omega (arith, tries .within, tries .most, value-in A t i n m tries)
 
-    no : (w ≡ DONE → ⊥) → standing A (take i e) m ≡ false
-    no d = no-value A e i n (tries .long) (tries .most) (tries .passes) m (tries .within) (λ z. d (is ∙ z))
+    module _ (k : ℕ) (next : k ≡ peak (at u) (m - 1)) where
+      below : k < m
+      below = omega (arith, value-above (tries-on .passes) m (tries-on .value) (omega arith))
 
-    pub zero-yes : (r : ℕ) (f : List ℕ) → m ≡ 0 → w ≡ DONE → f ≡ placed e (i + 1) m → r ≡ countFrom (standing A) (n - (i + 1)) (take (i + 1) f)
-        → r ≡ tried (standing A) (n - (i + 1)) (take i e) m
-    unfolding tried
-    zero-yes r f z v q h = counted r f q h ∙ rw z (rw (rw z at (yes v)))
+      pub next-falls : (x : ℕ) → (n - i) * 32 + (m + 1) ≡ x → (n - i) * 32 + (k + 1) < x
+      next-falls x z = omega (arith, below)
 
-    pub zero-no : m ≡ 0 → (w ≡ DONE → ⊥) → 0 ≡ tried (standing A) (n - (i + 1)) (take i e) m
-    unfolding tried
-    zero-no z d = rw z (rw (rw z at (no d)))
+      pub next-tries : Tries A u i n k
+      next-tries = let s = tries-on in
+          record { within = s .within; most = s .most; long = s .long; passes = s .passes; value = rw next (next-value (s .passes) m (s .value) (omega arith)) }
 
-    module _ (k rest : ℕ) (next : k ≡ peak (at e) (m - 1)) (above : m ≡ 0 → ⊥) (below : rest ≡ tried (standing A) (n - (i + 1)) (take i e) k) where
-      skipped : rest ≡ tried (standing A) (n - (i + 1)) (take i e) (m - 1)
-      skipped = below ∙ sym (tried-skip (standing A) (n - (i + 1)) (take i e) k (m - 1) (omega (arith, value-above (tries .passes) m (tries .value) (omega arith)))
-          (λ j a b. no-value A e i n (tries .long) (tries .most) (tries .passes) j (tries .within) (λ v. value-gap (tries .passes) m j (tries .value) (omega arith) (omega arith) v)))
+      pub tried-more : (here rest : ℕ) → here ≡ extension (standing A) (n - (i + 1)) (take i t) m → rest ≡ tried (standing A) (n - (i + 1)) (take i u) (k + 1)
+          → here + rest ≡ tried (standing A) (n - (i + 1)) (take i t) (m + 1)
+      tried-more here rest e h = rw (add-one m) (omega (arith, e, skipped, tried-suc (standing A) (n - (i + 1)) (take i t) m))
+        where
+          s : Tries A u i n m
+          s = tries-on
 
-      pub more-yes : (r : ℕ) (f : List ℕ) → w ≡ DONE → f ≡ placed e (i + 1) m → r ≡ countFrom (standing A) (n - (i + 1)) (take (i + 1) f)
-          → rest + r ≡ tried (standing A) (n - (i + 1)) (take i e) m
-      more-yes r f v q h = rw (tried-yes (standing A) (n - (i + 1)) (take i e) m (omega arith) (yes v), ← skipped, ← counted r f q h)
-
-      pub more-no : (w ≡ DONE → ⊥) → rest ≡ tried (standing A) (n - (i + 1)) (take i e) m
-      more-no d = skipped ∙ sym (tried-no (standing A) (n - (i + 1)) (take i e) m (omega arith) (no d))
+          skipped : rest ≡ tried (standing A) (n - (i + 1)) (take i t) m
+          skipped = h ∙ sym (tried-skip (standing A) (n - (i + 1)) (take i u) (k + 1) m (omega (arith, below))
+              (λ j a b. no-value A u i n (s .long) (s .most) (s .passes) j (s .within) (λ v. value-gap (s .passes) m j (s .value) (omega arith) b v)))
+              ∙ ap (λ (p : List ℕ). tried (standing A) (n - (i + 1)) p m) (kept .same)
 
 -- no sum of counts is above 20!; the first premise shows every variable that the conclusion does not
-pub sum-fits : (A : ℕ) (e : List ℕ) (i n m w k rest r : ℕ) (f : List ℕ) → Tries A e i n m → w ≡ weighed A (at e) i m → k ≡ peak (at e) (m - 1)
-    → rest ≡ tried (standing A) (n - (i + 1)) (take i e) k → f ≡ placed e (i + 1) m → r ≡ countFrom (standing A) (n - (i + 1)) (take (i + 1) f) → w ≡ DONE → (m ≡ 0 → ⊥) → Fits w64 (rest + r)
-sum-fits A e i n m w k rest r f t is next b q h z above = let l = length-take-le i e (omega (arith, within A e i n m t)) in record {
+pub sum-fits : (A : ℕ) (t u : List ℕ) (i n m k here rest : ℕ) → Tries A t i n m → Kept t u i → k ≡ peak (at u) (m - 1) → here ≡ extension (standing A) (n - (i + 1)) (take i t) m
+    → rest ≡ tried (standing A) (n - (i + 1)) (take i u) (k + 1) → (m ≡ 0 → ⊥) → Fits w64 (here + rest)
+sum-fits A t u i n m k here rest s kept next e h some = let l = length-take-le i t (omega (arith, within A t i n m s)) in record {
   fits = omega (
     arith,
-    t .within,
-    t .most,
-    more-yes A e i n m t w is k rest next above b r f z q h,
-    tried-most (standing A) (n - (i + 1)) (take i e) m (omega (arith, l, value-most (t .passes) m (t .value))),
-    count-fits (standing A) (suc (n - (i + 1))) (take i e) (omega (arith, l, t .within, t .most)),
+    s .within,
+    s .most,
+    tried-more A t i n m s u kept some k next here rest e h,
+    tried-most (standing A) (n - (i + 1)) (take i t) (m + 1) (omega (arith, l, value-in A t i n m s)),
+    count-fits (standing A) (suc (n - (i + 1))) (take i t) (omega (arith, l, s .within, s .most)),
   );
 }
 

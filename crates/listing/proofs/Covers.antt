@@ -12,11 +12,10 @@ use Rattle.words.specs.Numbers.{DONE}
 use Rattle.words.specs.Stand.{possible, weight}
 use Rattle.words.proofs.Lists.{either, same?, In, In-nil, In-cons}
 use Rattle.words.proofs.Rows.{down-ind, down-zero, down-suc}
-use Rattle.arrays.specs.Steps.{Passes, Sound}
-use Rattle.arrays.proofs.Rules.{possible-above, possible-zero, possible-suc, possible-range, small-at, weight-open, weight-done, weighed-more, sound-at, sound-small, sound-part, passes-sound, echo-possible, walk-top, walk-hit, walk-on}
+use Rattle.arrays.specs.Steps.{Passes, Sound, peak}
+use Rattle.arrays.proofs.Rules.{possible-above, possible-zero, possible-suc, possible-range, small-at, weight-open, weight-done, weighed-more, sound-at, sound-small, sound-part, passes-sound, echo-possible, walk-top, walk-hit, walk-on, peak-most}
 use Rattle.arrays.proofs.Reasons.{above}
-use Rattle.listing.specs.Values.{peak, cover, Seeks, Lower, LeastValue}
-use Rattle.listing.proofs.Peak.{peak-most}
+use Rattle.listing.specs.Values.{cover, Seeks, Lower, LeastValue}
 use Rattle.listing.proofs.Counting.{value-most, value-above, next-value, gap}
 
 cover-zero : (E : ℕ → ℕ) (p : ℕ) → cover E p 0 ≡ p
@@ -178,9 +177,6 @@ module _ (E : ℕ → ℕ) (i p v : ℕ) (seeks : Seeks E i p v) where
 
     pub lower-below : (n : ℕ) → i ≤ n → p - 1 ≤ n
     lower-below n h = omega (arith, lower-at)
-
-    pub lower-less : Sound E (p - 1)
-    lower-less = sound-part (p - 1) (omega (arith, lower-at)) (seeks .sound)
 
     module _ (b : ℕ) (is : b ≡ E i) where
       pub lower-in : (n : ℕ) → i ≤ n → b < n

@@ -14,15 +14,14 @@ use Rattle.words.specs.Stand.{opens, weighed}
 use Rattle.words.specs.Listing.{values, standing, countFrom, count}
 use Rattle.words.proofs.Lists.{which, either, In, here, there, In-nil, In-cons, In-here, keep-in, Falls, keep-falls}
 use Rattle.words.specs.Rows.{Small}
-use Rattle.arrays.specs.Steps.{Passes}
+use Rattle.arrays.specs.Steps.{Passes, peak}
 use Rattle.arrays.proofs.Pigeon.{Distinct, but, keep-shorter}
-use Rattle.arrays.proofs.Rules.{possible-range, possible-top, possible-falling, open-in, open-out, weight-open, weighed-first, weighed-more, weighed-fits, weighed-room, weighed-done, passes-sound, sound-small, top-open, opens-at-most}
+use Rattle.arrays.proofs.Rules.{possible-range, possible-top, possible-falling, open-in, open-out, weight-open, weighed-first, weighed-more, weighed-fits, weighed-room, weighed-done, passes-sound, sound-small, top-open, opens-at-most, peak-stands}
 use Rattle.arrays.proofs.Theorem.{stands-passes}
 use Rattle.listing.specs.Sets.{Completes, spans}
-use Rattle.listing.specs.Values.{peak}
 use Rattle.listing.proofs.Listing.{Up, values-in, values-out, values-up}
 use Rattle.listing.proofs.Sizes.{count-most, count-fits, count-one, count-two}
-use Rattle.listing.proofs.Peak.{standing-in, standing-out, completes-stands, peak-stands}
+use Rattle.listing.proofs.Peak.{standing-in, standing-out, completes-stands}
 
 -- different members of a list are no more than the list has
 subset : (l k : List ℕ) → Distinct l → ((m : ℕ) → In m l → In m k) → length l ≤ length k

@@ -13,15 +13,13 @@ use Rattle.words.specs.Lists.{run, at}
 use Rattle.words.specs.Numbers.{DONE}
 use Rattle.words.specs.Stand.{Stands, weighed, numberAt}
 use Rattle.words.specs.Listing.{more, standing, listing, count, StandsAt, StandsAfter, First, Next, head, behind}
-use Rattle.words.proofs.Lists.{either}
 use Rattle.words.proofs.Rows.{alike-take}
-use Rattle.arrays.specs.Steps.{Passes}
-use Rattle.arrays.proofs.Rules.{possible-range, weighed-first, weighed-done, passes-sound, passes-part, sound-small, top-stands}
+use Rattle.arrays.specs.Steps.{Passes, peak}
+use Rattle.arrays.proofs.Rules.{weighed-first, passes-sound, passes-part, sound-small, peak-low, peak-stands}
 use Rattle.arrays.proofs.Alike.{weighed-alike}
 use Rattle.arrays.proofs.Judging.{passes-none, passes-more}
 use Rattle.arrays.proofs.Theorem.{stands-passes, passes-stands}
 use Rattle.listing.specs.Sets.{Completes, Highest, Lists, Visits}
-use Rattle.listing.specs.Values.{peak}
 use Rattle.listing.proofs.Order.{before-not, before-total, least-one}
 use Rattle.listing.proofs.Listing.{more-append, values-in, lists}
 use Rattle.listing.proofs.Sizes.{run-length, completes-more}
@@ -71,25 +69,6 @@ pub steps-visit : (A : ℕ) → 0 < A → (n : ℕ) (f : List ℕ) → First A n
     → Visits (Next A) (λ x. (z : List ℕ) → StandsAfter A x z → ⊥) f (listing (standing A) n []) × Lists (Stands A) n (listing (standing A) n []) × (count A n ≡ length (listing (standing A) n []))
 unfolding count
 steps-visit A pos n f h = walk-listing (stepping A n) (standing A) (stands-completes A) (completes-stands A pos) f (first-least A n f h)
-
--- the greatest value stands, and what stands is not above it
-module _ {A : ℕ} {E : ℕ → ℕ} where
-  pub peak-low : (n : ℕ) → Passes A E n → peak E n ≤ n
-  unfolding peak
-  peak-low zero p = omega arith
-  peak-low (suc n) p = omega (arith, sound-small (suc n) (passes-sound p) .below n (omega arith))
-
-  pub peak-stands : (n : ℕ) → Passes A E n → weighed A E n (peak E n) ≡ DONE
-  unfolding peak
-  peak-stands zero p = weighed-first A E 0 refl
-  peak-stands (suc n) p = top-stands A (passes-sound p)
-
-  pub peak-most : (n m : ℕ) → Passes A E n → weighed A E n m ≡ DONE → m ≤ peak E n
-  unfolding peak
-  peak-most zero m p w = either (weighed-done A E zero m w) (λ e. omega arith) (λ r. absurd (omega (arith, r .0)))
-  peak-most (suc n) m p w = let s = sound-small (suc n) (passes-sound p) in either (weighed-done A E (suc n) m w)
-      (λ e. omega arith)
-      (λ r. possible-range s (E (suc n)) (omega (arith, s .below n (omega arith))) m (r .1) .1)
 
 -- every standing prefix can be completed
 pub completed : (A : ℕ) → 0 < A → (r : ℕ) (p : List ℕ) → Stands A p → (c : List ℕ) × (length c ≡ r) × Stands A (p ++ c)

@@ -7,27 +7,25 @@ use native.Mathlib.Omega.{arith}
 use native.Mathlib.Numerals.{add-one, sub-one}
 use lib.Dec.{ltb, eqb}
 use lib.ListN.{length, getD, take}
-use lib.Seq.{take-take, take-set-le}
+use lib.Seq.{getD-take, length-take-le, take-take}
 use borrow.Author.Tests.{ltb-true, lt-ltb, le-ltb, eqb-true}
 use Rattle.words.specs.Lists.{both, at, placed}
-use Rattle.words.specs.Rows.{Alike}
 use Rattle.words.specs.Numbers.{DONE, limit}
 use Rattle.words.specs.Stand.{Stands, weighed, verdict}
 use Rattle.words.specs.Listing.{First, Next, StandsAfter}
 use Rattle.words.proofs.Lists.{either, same?, not-both, both-left, both-out, placed-long, placed-same, placed-other}
-use Rattle.words.proofs.Rows.{alike-take, alike-sym}
-use Rattle.arrays.specs.Steps.{Passes, Sound}
-use Rattle.arrays.proofs.Rules.{weighed-first, passes-sound, passes-part, sound-small, sound-part}
-use Rattle.arrays.proofs.Alike.{weighed-alike}
-use Rattle.arrays.proofs.Places.{verdict-passes}
+use Rattle.words.proofs.Rows.{alike-take}
+use Rattle.arrays.specs.Steps.{Passes, Sound, peak}
+use Rattle.arrays.proofs.Rules.{weighed-first, passes-sound, passes-part, sound-small, peak-low, peak-stands, peak-most}
+use Rattle.arrays.proofs.Alike.{weighed-alike, passes-alike}
+use Rattle.arrays.proofs.Tables.{judged-passes}
 use Rattle.arrays.proofs.Theorem.{stands-passes, passes-stands}
 use Rattle.listing.specs.Sets.{Parts, Sized, Lowest, Highest}
-use Rattle.listing.specs.Values.{peak, Seeks, Lower, LeastValue, repeated, Lows, Filled, Highs, Turned, Raised, Stepped, stepped, ended}
+use Rattle.listing.specs.Values.{Seeks, Lower, LeastValue, repeated, Lows, Filled, Highs, Turned, Raised, Stepped, stepped, ended}
 use Rattle.listing.proofs.Steps.{first-steps, last-steps, next-steps}
 use Rattle.listing.proofs.Standing.{least-first, least-next, after-stands}
-use Rattle.listing.proofs.Peak.{peak-low, peak-stands, peak-most}
 use Rattle.listing.proofs.Few.{only-peak}
-use Rattle.listing.proofs.Counting.{peak-possible, placed-weighed, placed-passes}
+use Rattle.listing.proofs.Counting.{peak-possible, kept-none, alike-along, placed-weighed, placed-passes, take-placed}
 use Rattle.listing.proofs.Covers.{lower-least}
 
 -- `repeats`
@@ -99,62 +97,71 @@ module _ (A : ℕ) (E : ℕ → ℕ) (i k : ℕ) (lows : Lows A E i k) where
     }
 
 -- `fill`
-pub fill-none : (A : ℕ) (e : List ℕ) (i : ℕ) → Passes A (at e) i → Filled A e e i i
-fill-none A e i p = record { long = refl; kept = refl; lows = record { passes = p; least = λ j a b m w. absurd (omega arith) } }
+pub fill-none : (A : ℕ) (t : List ℕ) (i : ℕ) → length t ≡ limit → Passes A (at t) i → Filled A t t i i
+fill-none A t i l p = record { kept = kept-none t i l; lows = record { passes = p; least = λ j a b m w. absurd (omega arith) } }
 
-take-placed : (i k v : ℕ) (f : List ℕ) → i ≤ k → take i (placed f (suc k) v) ≡ take i f
-unfolding placed
-take-placed i k v f l = take-set-le i f k v l
-
-module _ (A : ℕ) (e f : List ℕ) (i k v : ℕ) (filled : Filled A e f i k) (value : LeastValue A (at f) k 0 v) where
-  passes : Passes A (at f) k
+module _ (A : ℕ) (t u : List ℕ) (i n k v : ℕ) (filled : Filled A t u i k) (value : LeastValue A (at u) k 0 v) (room : n ≤ limit) (inside : k < n) where
+  passes : Passes A (at u) k
   passes = filled .lows .passes
 
-  pub fill-small : length e ≤ limit → k < length f → v < 65536
-  fill-small l h = omega (arith, filled .long, value .least (peak (at f) k) (omega arith) (peak-stands k passes), peak-low k passes)
+  pub fill-small : v < 65536
+  fill-small = omega (arith, value .least (peak (at u) k) (omega arith) (peak-stands k passes), peak-low k passes)
 
-  pub fill-more : (g : List ℕ) → g ≡ placed f (k + 1) v → k < length f → i ≤ k → Filled A e g i (k + 1)
-  fill-more g q h l = rw (q, add-one) (record {
-    long = placed-long f (suc k) v ∙ filled .long;
-    kept = take-placed i k v f l ∙ filled .kept;
+  within : k < length u
+  within = omega (arith, filled .kept .long)
+
+  pub fill-more : (x : List ℕ) → x ≡ placed u (k + 1) v → i ≤ k → Filled A t x i (k + 1)
+  fill-more x q l = rw (q, add-one) (record {
+    kept = record { long = placed-long u (suc k) v ∙ filled .kept .long; same = take-placed i k v u l ∙ filled .kept .same };
     lows = record {
-      passes = placed-passes A f k v h passes (value .stands);
+      passes = placed-passes A u k v within passes (value .stands);
       least = λ j a b m w. either (same? j k)
-          (λ z. rw z (rw (placed-same f (suc k) v (omega arith) h) (value .least m (omega arith) (sym (placed-weighed A f k v k m (omega arith) passes) ∙ rw z at w))))
-          (λ d. rw (placed-other f (suc k) v (suc j) (λ z. d (omega arith)))
-          (filled .lows .least j a (omega arith) m (sym (placed-weighed A f k v j m (omega arith) passes) ∙ w)));
+          (λ z. rw z (rw (placed-same u (suc k) v (omega arith) within) (value .least m (omega arith) (sym (placed-weighed A u k v k m (omega arith) passes) ∙ rw z at w))))
+          (λ d. rw (placed-other u (suc k) v (suc j) (λ z. d (omega arith)))
+          (filled .lows .least j a (omega arith) m (sym (placed-weighed A u k v j m (omega arith) passes) ∙ w)));
     };
   })
 
-pub fill-done : (A : ℕ) (e f : List ℕ) (i k n : ℕ) → Filled A e f i k → k ≤ length e → length f ≤ k → n ≡ length f → Filled A e f i n
-fill-done A e f i k n h l g z = subst (λ (x : ℕ). Filled A e f i x) (omega (arith, h .long)) h
+pub fill-done : (A : ℕ) (t u : List ℕ) (i k n : ℕ) → Filled A t u i k → k ≤ n → n ≤ k → Filled A t u i n
+fill-done A t u i k n h l g = subst (λ (x : ℕ). Filled A t u i x) (omega arith) h
 
--- a standing array that goes along with e for j places has behind them a value that stands there
-member-weighed : (A : ℕ) (z e : List ℕ) (j : ℕ) → Stands A z → j < length z → take j z ≡ take j e → weighed A (at e) j (getD z j 0) ≡ DONE
-unfolding at
-member-weighed A z e j s h t =
-    let p = stands-passes s in
-    let a : Alike (at z) (at e) j = alike-through in
-    sym (weighed-alike A j (getD z j 0) a (sound-small j (passes-sound (passes-part j (omega arith) p)))) ∙ p .step j h
-  where
-    alike-through : Alike (at z) (at e) j
-    alike-through = record { same = λ i l. alike-take z j .same i l ∙ ap (λ (x : List ℕ). at x (suc i)) t ∙ alike-sym (alike-take e j) .same i l }
+-- the array of n places in the table t
+module _ (A : ℕ) (t : List ℕ) (n : ℕ) (room : n ≤ limit) (whole : length t ≡ limit) where
+  array-long : length (take n t) ≡ n
+  array-long = length-take-le n t (omega arith)
 
-filled-lowest : (A : ℕ) (e f : List ℕ) (i : ℕ) → Filled A e f i (length f) → Lowest (Stands A) f i
-unfolding at
-filled-lowest A e f i h = record { least = λ z s j a b t. h .lows .least j a b (getD z j 0) (member-weighed A z f j (s .is) (omega (arith, s .long)) t) }
+  array-stands : 0 < A → Passes A (at t) n → Stands A (take n t)
+  array-stands pos p = passes-stands pos (take n t) (rw array-long (passes-alike (alike-take t n) p))
+
+  -- a standing array that goes along with it for j places has behind them a value that stands there
+  member-weighed : (z : List ℕ) (j : ℕ) → Sized (Stands A) (length (take n t)) z → j < length (take n t) → take j z ≡ take j (take n t) → weighed A (at t) j (getD z j 0) ≡ DONE
+  unfolding at
+  member-weighed z j s h e =
+      let p = stands-passes (s .is) in
+      let l : j < length z = omega (arith, s .long) in
+      sym (weighed-alike A j (getD z j 0) (alike-along z t j (e ∙ take-take j n t (omega (arith, array-long)))) (sound-small j (passes-sound (passes-part j (omega arith) p)))) ∙ p .step j l
+
+  array-lowest : (i : ℕ) → Lows A (at t) i n → Lowest (Stands A) (take n t) i
+  unfolding at
+  array-lowest i lows = record {
+    least = λ z s j a b e. let h : j < n = omega (arith, array-long) in rw (getD-take n t j 0 h) (lows .least j a h (getD z j 0) (member-weighed z j s b e));
+  }
+
+  array-highest : (i : ℕ) → Passes A (at t) n → Highs (at t) n i → Highest (Stands A) (take n t) i
+  unfolding at
+  array-highest i p highs = record {
+    most = λ z s j a b e. let h : j < n = omega (arith, array-long) in rw (getD-take n t j 0 h)
+        (omega (arith, highs .high j a h, peak-most j (getD z j 0) (passes-part j (omega arith) p) (member-weighed z j s b e)));
+  }
 
 -- `first`
-pub first-done : (A : ℕ) (e f : List ℕ) (n : ℕ) → Filled A e f 0 (length f) → 0 < A → n ≡ length e → First A n f
-first-done A e f n h pos z = least-first A n f (first-steps (Stands A) f n
-    (record { is = passes-stands pos f (h .lows .passes); long = h .long ∙ sym z }) (filled-lowest A e f 0 h))
+pub first-done : (A : ℕ) (t u : List ℕ) (n : ℕ) → Filled A t u 0 n → 0 < A → n ≤ limit → First A n (take n u)
+first-done A t u n h pos l = least-first A n (take n u) (first-steps (Stands A) (take n u) n
+    (record { is = array-stands A u n l (h .kept .long) pos (h .lows .passes); long = array-long A u n l (h .kept .long) }) (array-lowest A u n l (h .kept .long) 0 (h .lows)))
 
 -- `turn`
 pub turn-start : (E : ℕ → ℕ) (n i : ℕ) → i ≡ n → Highs E n i
 turn-start E n i z = record { within = omega arith; high = λ j a b. absurd (omega arith) }
-
-pub sound-less : (E : ℕ → ℕ) (n i : ℕ) → Sound E n → i ≤ n → Sound E (i - 1)
-sound-less E n i s h = sound-part (i - 1) (omega arith) s
 
 pub turn-end : (E : ℕ → ℕ) (n i : ℕ) → Highs E n i → i ≤ 0 → Turned E n 0
 turn-end E n i t z = record { highs = record { within = omega arith; high = λ j a b. t .high j (omega arith) b }; grows = λ d. absurd (d refl) }
@@ -172,83 +179,98 @@ module _ (E : ℕ → ℕ) (n i m p : ℕ) (highs : Highs E n i) (is : m ≡ E i
   }
 
 -- `raise`
-module _ (A : ℕ) (e : List ℕ) (k m p : ℕ) (is : m ≡ at e (k + 1)) (passes : Passes A (at e) k) (grows : at e (k + 1) < peak (at e) k) (top : p ≡ peak (at e) k) where
+module _ (A : ℕ) (t : List ℕ) (k m p : ℕ) (is : m ≡ at t (k + 1)) (passes : Passes A (at t) k) (grows : at t (k + 1) < peak (at t) k) (top : p ≡ peak (at t) k) where
   not-first : 0 < k
   unfolding peak
   not-first = either (same? k 0) (λ z. absurd (omega (arith, rw z at grows))) (λ d. omega arith)
 
-  pub raise-asks : Seeks (at e) k p m
+  pub raise-asks : Seeks (at t) k p m
   raise-asks = record { later = not-first; sound = passes-sound passes; value = rw top (peak-possible passes); low = omega arith }
 
-  module _ (v : ℕ) (lower : Lower (at e) k p m v) where
-    value : LeastValue A (at e) k (m + 1) v
-    value = lower-least A (at e) k p m v passes not-first top lower
+  module _ (v n : ℕ) (lower : Lower (at t) k p m v) (room : n ≤ limit) (inside : k < n) where
+    value : LeastValue A (at t) k (m + 1) v
+    value = lower-least A (at t) k p m v passes not-first top lower
 
-    pub raise-small : (n : ℕ) → n ≤ limit → k < n → v < 65536
-    raise-small n l h = omega (arith, value .least (peak (at e) k) (omega arith) (peak-stands k passes), peak-low k passes)
+    pub raise-small : v < 65536
+    raise-small = omega (arith, value .least (peak (at t) k) (omega arith) (peak-stands k passes), peak-low k passes)
 
-    module _ (g : List ℕ) (put : g ≡ placed e (k + 1) v) (within : k < length e) where
-      pub raise-passes : Passes A (at g) (k + 1)
-      raise-passes = rw (put, add-one) (placed-passes A e k v within passes (value .stands))
+    module _ (x : List ℕ) (put : x ≡ placed t (k + 1) v) (whole : length t ≡ limit) where
+      room-there : k < length t
+      room-there = omega arith
 
-      pub raise-done : (f : List ℕ) → Filled A g f (k + 1) (length f) → Raised A e f k
-      raise-done f filled = record { value = rw (has, ← is) value; filled = rw has (subst (λ (x : List ℕ). Filled A x f (k + 1) (length f)) put filled) }
+      pub raise-passes : Passes A (at x) (k + 1)
+      raise-passes = rw (put, add-one) (placed-passes A t k v room-there passes (value .stands))
+
+      pub raise-done : (u : List ℕ) → Filled A x u (k + 1) n → Raised A t u k n
+      raise-done u filled = record { value = rw (has, ← is) value; filled = rw has (subst (λ (y : List ℕ). Filled A y u (k + 1) n) put filled) }
         where
-          has : at f (k + 1) ≡ v
-          has = ap (at f) (add-one k) ∙ alike-take f (k + 1) .same k (omega arith) ∙ ap (λ (x : List ℕ). at x (suc k)) (filled .kept)
-              ∙ sym (alike-take g (k + 1) .same k (omega arith)) ∙ ap (λ (x : List ℕ). at x (suc k)) put ∙ rw add-one (placed-same e (suc k) v (omega arith) within)
+          has : at u (k + 1) ≡ v
+          has = ap (at u) (add-one k) ∙ alike-along u x (k + 1) (filled .kept .same) .same k (omega arith) ∙ ap (λ (y : List ℕ). at y (suc k)) put
+              ∙ rw add-one (placed-same t (suc k) v (omega arith) room-there)
 
 -- `next`
-module _ (A : ℕ) (e : List ℕ) (good : verdict A e ≡ (DONE, 0)) where
-  part : (k : ℕ) → k ≤ length e → Passes A (at e) k
-  part k l = passes-part k l (verdict-passes A e (ap (λ (v : ℕ × ℕ). v .0) good))
+module _ (A : ℕ) (t : List ℕ) (n : ℕ) (room : n ≤ limit) (whole : length t ≡ limit) (good : verdict A (take n t) ≡ (DONE, 0)) where
+  part : (k : ℕ) → k ≤ n → Passes A (at t) k
+  part k l = passes-part k l (judged-passes A t n (omega arith) good)
 
-  pub next-sound : Sound (at e) (length e)
-  next-sound = passes-sound (part (length e) (omega arith))
+  module _ (k : ℕ) (turned : Turned (at t) n k) where
+    highest : Highest (Stands A) (take n t) k
+    highest = array-highest A t n room whole k (part n (omega arith)) (turned .highs)
 
-  module _ (t : ℕ) (turned : Turned (at e) (length e) t) where
-    highest : Highest (Stands A) e t
-    unfolding at
-    highest = record { most = λ z s j a b q. omega (arith, turned .highs .high j a b, peak-most j (getD z j 0) (part j (omega arith)) (member-weighed A z e j (s .is) (omega (arith, s .long)) q)) }
+    pub next-last : k ≡ 0 → Stepped A (take n t) (take n t) false
+    next-last z = ended refl (λ y a. last-steps (Stands A) (take n t) (subst (λ (j : ℕ). Highest (Stands A) (take n t) j) z highest) y (after-stands A a)) refl
 
-    pub next-last : t ≡ 0 → Stepped A e e false
-    next-last z = ended refl (λ y a. last-steps (Stands A) e (subst (λ (k : ℕ). Highest (Stands A) e k) z highest) y (after-stands A a)) refl
-
-    module _ (some : t ≡ 0 → ⊥) where
-      pub turn-in : t - 1 < length e
+    module _ (some : k ≡ 0 → ⊥) where
+      pub turn-in : k - 1 < n
       turn-in = omega (arith, turned .highs .within)
 
-      pub turn-passes : Passes A (at e) (t - 1)
-      turn-passes = part (t - 1) (omega (arith, turned .highs .within))
+      pub turn-passes : Passes A (at t) (k - 1)
+      turn-passes = part (k - 1) (omega (arith, turned .highs .within))
 
-      pub turn-grows : at e (t - 1 + 1) < peak (at e) (t - 1)
-      turn-grows = let z : t - 1 + 1 ≡ t = omega arith in rw z (turned .grows some)
+      pub turn-grows : at t (k - 1 + 1) < peak (at t) (k - 1)
+      turn-grows = let z : k - 1 + 1 ≡ k = omega arith in rw z (turned .grows some)
 
-      module _ (f : List ℕ) (pos : 0 < A) (raised : Raised A e f (t - 1)) where
-        raises : LeastValue A (at e) (t - 1) (getD e (t - 1) 0 + 1) (getD f (t - 1) 0)
+      module _ (u : List ℕ) (pos : 0 < A) (raised : Raised A t u (k - 1) n) where
+        raises : LeastValue A (at t) (k - 1) (getD t (k - 1) 0 + 1) (getD u (k - 1) 0)
         unfolding at
-        raises = rw (add-one (t - 1)) at (raised .value)
+        raises = rw (add-one (k - 1)) at (raised .value)
 
-        filled : Filled A (placed e (suc (t - 1)) (getD f (t - 1) 0)) f (suc (t - 1)) (length f)
+        filled : Filled A (placed t (suc (k - 1)) (getD u (k - 1) 0)) u (suc (k - 1)) n
         unfolding at
         filled = rw add-one at (raised .filled)
 
-        sized : Sized (Stands A) (length e) f
-        sized = record { is = passes-stands pos f (filled .lows .passes); long = filled .long ∙ placed-long e (suc (t - 1)) (getD f (t - 1) 0) }
+        -- the arrays before and behind the step, and their values at the place that rises
+        old : length (take n t) ≡ n
+        old = array-long A t n room whole
 
-        parts : Parts e f (t - 1)
+        new : length (take n u) ≡ n
+        new = array-long A u n room (filled .kept .long)
+
+        was : getD (take n t) (k - 1) 0 ≡ getD t (k - 1) 0
+        was = getD-take n t (k - 1) 0 turn-in
+
+        is : getD (take n u) (k - 1) 0 ≡ getD u (k - 1) 0
+        is = getD-take n u (k - 1) 0 turn-in
+
+        sized : Sized (Stands A) (length (take n t)) (take n u)
+        sized = record { is = array-stands A u n room (filled .kept .long) pos (filled .lows .passes); long = new ∙ sym old }
+
+        same : take (k - 1) t ≡ take (k - 1) u
+        same = sym (take-placed (k - 1) (k - 1) (getD u (k - 1) 0) t (omega arith))
+            ∙ sym (take-take (k - 1) (suc (k - 1)) _ (omega arith)) ∙ ap (take (k - 1)) (sym (filled .kept .same)) ∙ take-take (k - 1) (suc (k - 1)) u (omega arith)
+
+        parts : Parts (take n t) (take n u) (k - 1)
         parts = record {
-          within = turn-in;
-          same = sym (take-placed (t - 1) (t - 1) (getD f (t - 1) 0) e (omega arith))
-              ∙ sym (take-take (t - 1) (suc (t - 1)) _ (omega arith)) ∙ ap (take (t - 1)) (sym (filled .kept)) ∙ take-take (t - 1) (suc (t - 1)) f (omega arith);
-          less = omega (arith, raises .from);
+          within = omega (arith, old, turn-in);
+          same = take-take (k - 1) n t (omega (arith, turn-in)) ∙ same ∙ sym (take-take (k - 1) n u (omega (arith, turn-in)));
+          less = omega (arith, raises .from, was, is);
         }
 
-        pub next-done : Stepped A e f true
-        next-done = stepped refl (least-next A e f (next-steps (Stands A) e f (t - 1) sized parts
-            (subst (λ (j : ℕ). Highest (Stands A) e j) (omega arith) highest)
-            (filled-lowest A _ f (suc (t - 1)) filled)
-            (λ z s q g. raises .least (getD z (t - 1) 0) (omega arith) (member-weighed A z e (t - 1) (s .is) (omega (arith, s .long, turn-in)) q))))
+        pub next-done : Stepped A (take n t) (take n u) true
+        next-done = stepped refl (least-next A (take n t) (take n u) (next-steps (Stands A) (take n t) (take n u) (k - 1) sized parts
+            (subst (λ (j : ℕ). Highest (Stands A) (take n t) j) (omega arith) highest)
+            (array-lowest A u n room (filled .kept .long) (suc (k - 1)) (filled .lows))
+            (λ z s q g. rw is (raises .least (getD z (k - 1) 0) (omega (arith, was)) (member-weighed A t n room whole z (k - 1) s (omega (arith, old, turn-in)) q)))))
 
 -- what the step says, for an entry
 pub stepped-next : {A : ℕ} {e f : List ℕ} {t : Bool} → Stepped A e f t → t ≡ true → Next A e f

@@ -7,29 +7,32 @@ use lib.Dec.{ltb, eqb}
 use lib.ListN.{length, take}
 use Rattle.words.specs.Lists.{both, at, placed}
 use Rattle.words.specs.Rows.{down}
-use Rattle.words.specs.Numbers.{DONE}
+use Rattle.words.specs.Numbers.{DONE, limit}
 use Rattle.words.specs.Stand.{possible, weight, weighed}
 use Rattle.words.specs.Listing.{more, countFrom, Next, StandsAfter}
 use Rattle.words.proofs.Lists.{In}
-use Rattle.arrays.specs.Steps.{Passes, Sound, Possible}
+use Rattle.arrays.specs.Steps.{Passes, Sound, Possible, peak}
 
--- the greatest value behind the first n places: zero at the first place, and behind it one more than the echo before
-unfoldable pub peak : (ℕ → ℕ) → ℕ → ℕ
-peak E zero = 0
-peak E (suc n) = suc (E (suc n))
+-- the count of p with the value m behind it, 0 where that is not accepted; the sum of these over the values below k
+unfoldable pub extension : (List ℕ → ℕ → Bool) → ℕ → List ℕ → ℕ → ℕ
+extension ok r p m = cond (ok p m) (countFrom ok r (more p m)) 0
 
--- the sum of the counts behind p over the values 0 to k
 unfoldable pub tried : (List ℕ → ℕ → Bool) → ℕ → List ℕ → ℕ → ℕ
-tried ok r p zero = cond (ok p 0) (countFrom ok r (more p 0)) 0
-tried ok r p (suc k) = tried ok r p k + cond (ok p (suc k)) (countFrom ok r (more p (suc k))) 0
+tried ok r p zero = 0
+tried ok r p (suc k) = tried ok r p k + extension ok r p k
 
--- what trying the value m behind the first i places of e asks, in counting arrays of n places
-pub record Tries (A : ℕ) (e : List ℕ) (i n m : ℕ) : Type 0 where
+-- the table u has the first i places of the table t
+pub record Kept (t u : List ℕ) (i : ℕ) : Type 0 where
+  pub long : length u ≡ limit
+  pub same : take i u ≡ take i t
+
+-- what trying the value m behind the first i places of the table t asks, in counting arrays of n places
+pub record Tries (A : ℕ) (t : List ℕ) (i n m : ℕ) : Type 0 where
   pub within : i < n
   pub most : n ≤ 20
-  pub long : length e ≡ 20
-  pub passes : Passes A (at e) i
-  pub value : Possible (at e) i m
+  pub long : length t ≡ limit
+  pub passes : Passes A (at t) i
+  pub value : Possible (at t) i m
 
 -- the open value that the possible value p is, or is hidden behind, where the echo of the place before is b: up the chain from p, each possible value
 -- whose echo is what has been reached takes its place
@@ -64,11 +67,10 @@ pub record Lows (A : ℕ) (E : ℕ → ℕ) (i k : ℕ) : Type 0 where
   pub passes : Passes A E k
   pub least : (j : ℕ) → i ≤ j → j < k → (m : ℕ) → weighed A E j m ≡ DONE → E (suc j) ≤ m
 
--- f has the first i places of e, and behind them the least values up to the k-th
-pub record Filled (A : ℕ) (e f : List ℕ) (i k : ℕ) : Type 0 where
-  pub long : length f ≡ length e
-  pub kept : take i f ≡ take i e
-  pub lows : Lows A (at f) i k
+-- the table u has the first i places of t, and behind them the least values up to the k-th
+pub record Filled (A : ℕ) (t u : List ℕ) (i k : ℕ) : Type 0 where
+  pub kept : Kept t u i
+  pub lows : Lows A (at u) i k
 
 -- of the places from the i-th to the n-th each has the greatest value; r is the last of n places that has not, 0 where each has it
 pub record Highs (E : ℕ → ℕ) (n i : ℕ) : Type 0 where
@@ -79,10 +81,10 @@ pub record Turned (E : ℕ → ℕ) (n r : ℕ) : Type 0 where
   pub highs : Highs E n r
   pub grows : (r ≡ 0 → ⊥) → E r < peak E (r - 1)
 
--- f has the first k places of e, behind them the least value above e's, and the least values behind that
-pub record Raised (A : ℕ) (e f : List ℕ) (k : ℕ) : Type 0 where
-  pub value : LeastValue A (at e) k (at e (k + 1) + 1) (at f (k + 1))
-  pub filled : Filled A (placed e (k + 1) (at f (k + 1))) f (k + 1) (length f)
+-- the table u has the first k places of t, behind them the least value above t's, and the least values behind that, up to the n-th place
+pub record Raised (A : ℕ) (t u : List ℕ) (k n : ℕ) : Type 0 where
+  pub value : LeastValue A (at t) k (at t (k + 1) + 1) (at u (k + 1))
+  pub filled : Filled A (placed t (k + 1) (at u (k + 1))) u (k + 1) n
 
 -- what the step from a standing array leaves, and whether there was one
 pub data Stepped (A : ℕ) (old new : List ℕ) (t : Bool) : Type 0 where

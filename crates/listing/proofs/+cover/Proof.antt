@@ -7,7 +7,7 @@ use borrow.Fn.PlainCycle.{Measures, is, falls, and}
 use Rattle.listing.proofs.cover.Reads as cover
 use Rattle.listing.proofs.cover.Kinds as cover-kinds
 use Rattle.listing.proofs.+cover.Lts-cover as cover-lts
-use Rattle.rows.proofs.echo_at.Reads as echo-at-reads
+use Rattle.arrays.proofs.echo.Reads as echo-reads
 use Rattle.listing.proofs.+cover.{statement}
 use Rattle.listing.proofs.+cover.Tie.{close}
 
@@ -21,7 +21,7 @@ abbrev cover-below : ℕ → In 1 cover-kinds.ps
 cover-below t = and 1 cover-kinds.ps (falls 1 cover-kinds.ps _<_ μ-cover t) cover.Pre
 
 abbrev cover-claims : ℕ → cover-lts.Claims
-cover-claims t = (echo-at-reads.Asked, echo-at-reads.Learnt, cover-below t, cover.Post)
+cover-claims t = (echo-reads.Asked, echo-reads.Learnt, cover-below t, cover.Post)
 
 cover-add-if1 : (t : ℕ) → cover-lts.Need-add-if1 (cover-claims t) (cover-at t) cover.Post
 cover-add-if1 t c = search needs
@@ -29,17 +29,17 @@ cover-add-if1 t c = search needs
 cover-returns : (t : ℕ) → cover-lts.Need-returns (cover-claims t) (cover-at t) cover.Post
 cover-returns t c = search (needs, walk-here)
 
-cover-echo-at-requires : (t : ℕ) → cover-lts.Need-echo-at-requires (cover-claims t) (cover-at t) cover.Post
-cover-echo-at-requires t c κs = search (needs, walk-above)
+cover-echo-requires : (t : ℕ) → cover-lts.Need-echo-requires (cover-claims t) (cover-at t) cover.Post
+cover-echo-requires t c κs = search (needs, walk-above)
 
 cover-cover-requires : (t : ℕ) → cover-lts.Need-cover-requires (cover-claims t) (cover-at t) cover.Post
 cover-cover-requires t c κs = (search (needs, walk-falls), (search (needs, walk-in), search (needs, walk-sound), search (needs, walk-possible)))
 
-cover-add-echo-at : (t : ℕ) → cover-lts.Need-add-echo-at (cover-claims t) (cover-at t) cover.Post
-cover-add-echo-at t c = search needs
+cover-add-echo : (t : ℕ) → cover-lts.Need-add-echo (cover-claims t) (cover-at t) cover.Post
+cover-add-echo t c = search needs
 
-cover-echo-at-requires-2 : (t : ℕ) → cover-lts.Need-echo-at-requires-2 (cover-claims t) (cover-at t) cover.Post
-cover-echo-at-requires-2 t c κs = search needs
+cover-echo-requires-2 : (t : ℕ) → cover-lts.Need-echo-requires-2 (cover-claims t) (cover-at t) cover.Post
+cover-echo-requires-2 t c κs = search needs
 
 cover-add-result : (t : ℕ) → cover-lts.Need-add-result (cover-claims t) (cover-at t) cover.Post
 cover-add-result t c = search needs
@@ -56,10 +56,10 @@ pub +cover-spec : {M : Type 1} → statement M
     cover.Post
     (cover-add-if1 t)
     (cover-returns t)
-    (cover-echo-at-requires t)
+    (cover-echo-requires t)
     (cover-cover-requires t)
-    (cover-add-echo-at t)
-    (cover-echo-at-requires-2 t)
+    (cover-add-echo t)
+    (cover-echo-requires-2 t)
     (cover-add-result t)
     (cover-returns-2 t)
     (cover-returns-3 t)

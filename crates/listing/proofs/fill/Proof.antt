@@ -1,17 +1,16 @@
 -- `fill`: the places behind the first i have the least values, up to the k-th. Assumes nothing.
 use borrow.Author.Needs.{needs}
 use Prim.Native.Nat.{_-_, _≤_}
-use lib.ListN.{length}
 use Rattle.listing.specs.Values.{Filled}
 use Rattle.listing.proofs.Stepping.{fill-none, fill-small, fill-more, fill-done}
 use Rattle.listing.proofs.fill.Statement.{statement}
 use Rattle.listing.proofs.fill.Tie as tie
 
 abbrev Inv-loop : tie.InvT-loop
-Inv-loop a e₀ i k₀ e k = (i ≤ k) × (k ≤ length e₀) × Filled a e₀ e i k
+Inv-loop a t₀ i n k₀ t k = (i ≤ k) × (k ≤ n) × Filled a t₀ t i k
 
 abbrev μ-loop : tie.MeasureT-loop
-μ-loop a e₀ i k₀ e k = length e₀ - k
+μ-loop a t₀ i n k₀ t k = n - k
 
 loop-holds : tie.Need-loop-holds Inv-loop μ-loop
 loop-holds c = search (needs, fill-none)
@@ -34,9 +33,6 @@ loop-less c = search needs
 loop-again : tie.Need-loop-again Inv-loop μ-loop
 loop-again c = (search needs, search needs, search (needs, fill-more))
 
-same-length : tie.Need-same-length Inv-loop μ-loop
-same-length c = search needs
-
 returns : tie.Need-returns Inv-loop μ-loop
 returns c = search (needs, fill-done)
 
@@ -53,5 +49,4 @@ fill-spec =
     add-k
     loop-less
     loop-again
-    same-length
     returns)

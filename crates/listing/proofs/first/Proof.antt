@@ -7,11 +7,8 @@ use Rattle.listing.proofs.first.Tie as tie
 fill-requires : tie.Need-fill-requires
 fill-requires c κs = search needs
 
-same-length : tie.Need-same-length
-same-length c = search needs
-
 returns : tie.Need-returns
 returns c = search (needs, first-done)
 
 pub first-spec : {M : Type 1} → statement M
-first-spec = tie.close (tie.spec fill-requires same-length returns)
+first-spec = tie.close (tie.spec fill-requires returns)

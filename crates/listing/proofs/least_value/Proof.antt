@@ -13,8 +13,8 @@ returns c = search (needs, seek-one)
 repeats-requires : tie.Need-repeats-requires
 repeats-requires c κs = search needs
 
-echo-at-requires : tie.Need-echo-at-requires
-echo-at-requires c κs = (search (needs, seek-place), search needs)
+echo-requires : tie.Need-echo-requires
+echo-requires c κs = (search (needs, seek-place), search needs)
 
 returns-2 : tie.Need-returns-2
 returns-2 c = search (needs, seek-again)
@@ -41,7 +41,7 @@ least-value-spec =
     peak-at-requires
     returns
     repeats-requires
-    echo-at-requires
+    echo-requires
     returns-2
     number-of-requires
     returns-3

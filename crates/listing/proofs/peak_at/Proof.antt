@@ -4,8 +4,8 @@ use Rattle.listing.proofs.Counting.{peak-none, peak-some}
 use Rattle.listing.proofs.peak_at.Statement.{statement}
 use Rattle.listing.proofs.peak_at.Tie as tie
 
-echo-at-requires : tie.Need-echo-at-requires
-echo-at-requires c κs = search needs
+echo-requires : tie.Need-echo-requires
+echo-requires c κs = search needs
 
 add-result : tie.Need-add-result
 add-result c = search needs
@@ -17,4 +17,4 @@ returns-2 : tie.Need-returns-2
 returns-2 c = search (needs, peak-some)
 
 pub peak-at-spec : {M : Type 1} → statement M
-peak-at-spec = tie.close (tie.spec echo-at-requires add-result returns returns-2)
+peak-at-spec = tie.close (tie.spec echo-requires add-result returns returns-2)

@@ -7,11 +7,11 @@ use Rattle.listing.proofs.raise.Tie as tie
 peak-at-requires : tie.Need-peak-at-requires
 peak-at-requires c κs = search needs
 
-add-echo-at : tie.Need-add-echo-at
-add-echo-at c = search needs
+add-echo : tie.Need-add-echo
+add-echo c = search needs
 
-echo-at-requires : tie.Need-echo-at-requires
-echo-at-requires c κs = search needs
+echo-requires : tie.Need-echo-requires
+echo-requires c κs = search needs
 
 least-open-requires : tie.Need-least-open-requires
 least-open-requires c κs = (search needs, search (needs, raise-asks))
@@ -26,10 +26,7 @@ add-fill : tie.Need-add-fill
 add-fill c = search needs
 
 fill-requires : tie.Need-fill-requires
-fill-requires c κs = (search needs, search needs, search (needs, raise-passes))
-
-same-length : tie.Need-same-length
-same-length c = search needs
+fill-requires c κs = (search needs, search needs, search needs, search (needs, raise-passes))
 
 returns : tie.Need-returns
 returns c = search (needs, raise-done)
@@ -39,12 +36,11 @@ raise-spec =
     tie.close
     (tie.spec
     peak-at-requires
-    add-echo-at
-    echo-at-requires
+    add-echo
+    echo-requires
     least-open-requires
     add-put-echo
     put-echo-requires
     add-fill
     fill-requires
-    same-length
     returns)

@@ -7,14 +7,14 @@ use Rattle.listing.proofs.repeats.Tie as tie
 add-if1 : tie.Need-add-if1
 add-if1 c = search needs
 
-sub-echo-at : tie.Need-sub-echo-at
-sub-echo-at c = search needs
+sub-echo : tie.Need-sub-echo
+sub-echo c = search needs
 
-echo-at-requires : tie.Need-echo-at-requires
-echo-at-requires c κs = search needs
+echo-requires : tie.Need-echo-requires
+echo-requires c κs = search needs
 
-echo-at-requires-2 : tie.Need-echo-at-requires-2
-echo-at-requires-2 c κs = search needs
+echo-requires-2 : tie.Need-echo-requires-2
+echo-requires-2 c κs = search needs
 
 returns : tie.Need-returns
 returns c = search (needs, repeats-far)
@@ -24,4 +24,4 @@ returns-2 c = search (needs, repeats-near)
 
 pub repeats-spec : {M : Type 1} → statement M
 repeats-spec =
-    tie.close (tie.spec add-if1 sub-echo-at echo-at-requires echo-at-requires-2 returns returns-2)
+    tie.close (tie.spec add-if1 sub-echo echo-requires echo-requires-2 returns returns-2)

@@ -1,29 +1,28 @@
 -- `turn`: the places behind i have the greatest values. Assumes nothing.
 use borrow.Author.Needs.{needs}
-use lib.ListN.{length}
 use Rattle.words.specs.Lists.{at}
 use Rattle.listing.specs.Values.{Highs}
-use Rattle.listing.proofs.Stepping.{turn-start, sound-less, turn-found, turn-on, turn-end}
+use Rattle.listing.proofs.Stepping.{turn-start, turn-found, turn-on, turn-end}
 use Rattle.listing.proofs.turn.Statement.{statement}
 use Rattle.listing.proofs.turn.Tie as tie
 
 abbrev Inv-loop : tie.InvT-loop
-Inv-loop e i₀ i = Highs (at e) (length e) i
+Inv-loop t n i₀ i = Highs (at t) n i
 
 abbrev μ-loop : tie.MeasureT-loop
-μ-loop e i₀ i = i
+μ-loop t n i₀ i = i
 
 loop-holds : tie.Need-loop-holds Inv-loop μ-loop
 loop-holds c = search (needs, turn-start)
 
-echo-at-requires : tie.Need-echo-at-requires Inv-loop μ-loop
-echo-at-requires c κs = search needs
+echo-requires : tie.Need-echo-requires Inv-loop μ-loop
+echo-requires c κs = search needs
 
 sub-peak-at : tie.Need-sub-peak-at Inv-loop μ-loop
 sub-peak-at c = search needs
 
 peak-at-requires : tie.Need-peak-at-requires Inv-loop μ-loop
-peak-at-requires c κs = (search needs, search (needs, sound-less))
+peak-at-requires c κs = search needs
 
 returns : tie.Need-returns Inv-loop μ-loop
 returns c = search (needs, turn-found)
@@ -47,7 +46,7 @@ turn-spec =
     Inv-loop
     μ-loop
     loop-holds
-    echo-at-requires
+    echo-requires
     sub-peak-at
     peak-at-requires
     returns
