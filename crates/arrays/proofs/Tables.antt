@@ -1,5 +1,5 @@
 -- An array in a table: its first n entries. Judging over the table, and copying into it and out of it, in the code's terms. Assumes nothing.
-use mathlib.Core.Path.{_≡_, refl, sym, ap, subst, _∙_}
+use mathlib.Core.Path.{_≡_, refl, sym, ap, _∙_}
 use mathlib.Core.List.{List}
 use Prim.Native.Nat.{ℕ, suc, _+_, _-_, _≤_, _<_}
 use native.Mathlib.Omega.{arith}
@@ -11,11 +11,10 @@ use Rattle.words.specs.Rows.{Alike}
 use Rattle.words.specs.Numbers.{DONE, limit}
 use Rattle.words.specs.Stand.{weighed, numberAt, fails, firstBad, verdict}
 use Rattle.words.proofs.Lists.{either, same?, placed-long, placed-same, placed-other}
-use Rattle.words.proofs.Rows.{alike-part, alike-sym, alike-take}
-use Rattle.arrays.specs.Steps.{Passes, peak}
-use Rattle.arrays.proofs.Rules.{passes-sound, sound-small, peak-stands}
-use Rattle.arrays.proofs.Alike.{weighed-alike, passes-alike}
-use Rattle.arrays.proofs.Places.{verdict-passes}
+use Rattle.words.proofs.Rows.{alike-part, alike-take}
+use Rattle.arrays.specs.Steps.{Passes, Holds, Clears, peak}
+use Rattle.arrays.proofs.Rules.{passes-sound, passes-part, sound-small, peak-stands}
+use Rattle.arrays.proofs.Alike.{weighed-alike}
 use Rattle.arrays.proofs.Judging.{number-there, passes-none, passes-more, bad-start, bad-more, bad-here, bad-none}
 
 -- the array of the first n entries has the table's echoes there
@@ -28,6 +27,12 @@ pub record Judged (A : ℕ) (t : List ℕ) (n i p : ℕ) : Type 0 where
   pub passes : Passes A (at t) i
   pub top : p ≡ peak (at t) i
   pub left : firstBad A (take n t) ≡ firstOf (fails A (at (take n t))) (run (i + 1) (length (take n t) - i))
+
+pub refused-clear : (A : ℕ) (E : ℕ → ℕ) (n w : ℕ) → (w ≡ DONE → ⊥) → Clears A E n w
+refused-clear A E n w d = record { passes = λ z. absurd (d z) }
+
+pub cleared : {A : ℕ} {E : ℕ → ℕ} {n w : ℕ} → Clears A E n w → w ≡ DONE → Passes A E n
+cleared c z = c .passes z
 
 pub judged-start : (A : ℕ) (t : List ℕ) (n : ℕ) → n ≤ limit → length t ≡ limit → Judged A t n 0 0
 unfolding peak
@@ -60,13 +65,11 @@ module _ {A : ℕ} {t : List ℕ} {n i p : ℕ} (judging : Judged A t n i p) whe
     pub judged-here : (w ≡ DONE → ⊥) → (w, i + 1) ≡ verdict A (take n t)
     judged-here d = bad-here A (take n t) i w number-same (judging .left) (omega (arith, judging .long)) d
 
+  pub judged-clear : n ≤ i → Clears A (at t) n DONE
+  judged-clear h = record { passes = λ z. passes-part n h (judging .passes) }
+
   pub judged-done : n ≤ i → (DONE, 0) ≡ verdict A (take n t)
   judged-done h = bad-none A (take n t) i (judging .left) (omega (arith, judging .long))
-
--- an array in a table that is judged done: the table's first n places pass
-pub judged-passes : (A : ℕ) (t : List ℕ) (n : ℕ) → n ≤ length t → verdict A (take n t) ≡ (DONE, 0) → Passes A (at t) n
-judged-passes A t n l v = passes-alike (alike-sym (alike-take t n))
-    (subst (λ (k : ℕ). Passes A (at (take n t)) k) (length-take-le n t l) (verdict-passes A (take n t) (ap (λ (r : ℕ × ℕ). r .0) v)))
 
 -- the greatest value takes no walk
 pub number-top : (A : ℕ) (E : ℕ → ℕ) (i m p : ℕ) → Passes A E i → p ≡ peak E i → m ≡ p → DONE ≡ weighed A E i m
@@ -99,8 +102,8 @@ module _ {e t : List ℕ} {k i : ℕ} (copying : Copied e t k i) where
   pub held-more : (u : List ℕ) (v : ℕ) → i < length e → length e ≤ k → v ≡ at e (i + 1) → u ≡ placed t (i + 1) v → Copied e u k (i + 1)
   held-more u v h l = copied-more u v (omega arith)
 
-  pub held-done : length e ≤ i → length e ≤ k → take (length e) t ≡ e
-  held-done h l = copied-part (length e) h l (omega arith) ∙ take-all (length e) e (omega arith)
+  pub held-done : length e ≤ i → length e ≤ k → Holds t e
+  held-done h l = record { array = copied-part (length e) h l (omega arith) ∙ take-all (length e) e (omega arith) }
 
   pub given-more : (u : List ℕ) (v : ℕ) → i < length t → v ≡ at e (i + 1) → u ≡ placed t (i + 1) v → Copied e u k (i + 1)
   given-more u v h = copied-more u v (omega (arith, copying .long))

@@ -20,10 +20,18 @@ pub record Sound (E : ℕ → ℕ) (n : ℕ) : Type 0 where
   pub over : ℕ
   pub passes : Passes over E n
 
+-- the number w of a judgement is 0 only if the first n values pass
+pub record Clears (A : ℕ) (E : ℕ → ℕ) (n w : ℕ) : Type 0 where
+  pub passes : w ≡ DONE → Passes A E n
+
 -- the greatest value behind the first n places: zero at the first place, and behind it one more than the echo before
 unfoldable pub peak : (ℕ → ℕ) → ℕ → ℕ
 peak E zero = 0
 peak E (suc n) = suc (E (suc n))
+
+-- the table t holds the array e: its first entries are e's echoes
+pub record Holds (t e : List ℕ) : Type 0 where
+  pub array : take (length e) t ≡ e
 
 -- the first n cards are of the A letters
 pub record Inside (A : ℕ) (X : ℕ → ℕ) (n : ℕ) : Type 0 where

@@ -5,7 +5,7 @@ use mathlib.Core.Logic.{_⊎_, inl, inr}
 use mathlib.Core.List.{List, [], _∷_}
 use Prim.Native.Nat.{ℕ, _≤_, _<_}
 use native.Mathlib.Omega.{arith}
-use lib.ListN.{length}
+use lib.ListN.{length, take}
 use Rattle.words.specs.Lists.{at}
 use Rattle.words.specs.Numbers.{DONE, LAST, letters, limit, countLimit, alphabet, long, refusal, sizes, lent}
 use Rattle.words.specs.Stand.{Stands, verdict}
@@ -14,7 +14,11 @@ use Rattle.words.specs.Listing.{First, Next, StandsAfter}
 use Rattle.words.specs.Outcomes.{Rebuilds, Starts, Steps, refuses, breaks, rebuilds, starts, ends, steps}
 use Rattle.words.proofs.Lists.{not-both}
 use Rattle.words.proofs.Checks.{refusal-clear, long-clear, sizes-clear, lent-clear}
+use Rattle.words.proofs.Rows.{alike-take}
+use Rattle.arrays.specs.Steps.{Clears, Holds}
+use Rattle.arrays.proofs.Rules.{passes-sound, sound-small}
 use Rattle.arrays.proofs.Places.{verdict-done}
+use Rattle.arrays.proofs.Writing.{rebuilt-alike}
 use Rattle.arrays.proofs.Theorem.{stands-verdict, verdict-stands, rebuilt-least}
 use Rattle.listing.specs.Values.{Stepped, stepped, ended}
 
@@ -25,6 +29,10 @@ module _ {A : ℕ} {e : List ℕ} {w q : ℕ} (judged : (w, q) ≡ verdict A e) 
 
   standing : 0 < A → w ≡ DONE → Stands A e
   standing a z = verdict-stands a e (verdict-done A e w q judged z)
+
+-- an array held in a table is judged there
+pub held-verdict : (A : ℕ) (e t : List ℕ) (w q : ℕ) → Holds t e → (w, q) ≡ verdict A (take (length e) t) → (w, q) ≡ verdict A e
+held-verdict A e t w q held judged = judged ∙ ap (verdict A) (held .array)
 
 -- rebuilding, in the demand's words
 module _ (A : ℕ) (e old : List ℕ) (n p : ℕ) (checked : (n, p) ≡ lent A (length e) (length old)) where
@@ -41,18 +49,29 @@ module _ (A : ℕ) (e old : List ℕ) (n p : ℕ) (checked : (n, p) ≡ lent A (
     pub rebuild-within : length e ≤ limit
     rebuild-within = lent-clear A (length e) (length old) clear .2
 
-    pub rebuild-matches : length e ≡ length old
-    rebuild-matches = sym (lent-clear A (length e) (length old) clear .3)
+    matches : length old ≡ length e
+    matches = lent-clear A (length e) (length old) clear .3
 
-    module _ (w q : ℕ) (judged : (w, q) ≡ verdict A e) where
+    pub rebuild-room : length old ≤ limit
+    rebuild-room = omega (arith, matches, rebuild-within)
+
+    module _ (t : List ℕ) (w q : ℕ) (held : Holds t e) (judged : (w, q) ≡ verdict A (take (length old) t)) where
+      says : (w, q) ≡ verdict A e
+      says = held-verdict A e t w q held (judged ∙ ap (λ (k : ℕ). verdict A (take k t)) matches)
+
       pub rebuild-breaks : (w ≡ DONE → ⊥) → Rebuilds A e old (w, q) old
-      rebuild-breaks d = breaks clear (not-standing judged d) judged refl
+      rebuild-breaks d = breaks clear (not-standing says d) says refl
 
-      pub rebuild-least : (new : List ℕ) → w ≡ DONE → new ≡ rebuilt (at e) (length e) → Rebuilds A e old (DONE, 0) new
-      unfolding LeastRow
-      rebuild-least new z h =
-          let a = lent-clear A (length e) (length old) clear .0 in
-          rebuilds clear (subst (λ (x : List ℕ). LeastRow A e x) (sym h) (rebuilt-least a (standing judged a z))) refl
+      module _ (z : w ≡ DONE) (clears : Clears A (at t) (length old) w) where
+        same : rebuilt (at t) (length old) ≡ rebuilt (at e) (length e)
+        same = rebuilt-alike (length old) (sound-small (length old) (passes-sound (clears .passes z))) (alike-take t (length old))
+            ∙ ap (λ (k : ℕ). rebuilt (at (take k t)) k) matches ∙ ap (λ (f : List ℕ). rebuilt (at f) (length e)) (held .array)
+
+        pub rebuild-least : (new : List ℕ) → new ≡ rebuilt (at t) (length old) → Rebuilds A e old (DONE, 0) new
+        unfolding LeastRow
+        rebuild-least new h =
+            let a = lent-clear A (length e) (length old) clear .0 in
+            rebuilds clear (subst (λ (x : List ℕ). LeastRow A e x) (sym (h ∙ same)) (rebuilt-least a (standing says a z))) refl
 
 -- the first array of a length
 module _ (A n : ℕ) (old : List ℕ) (m p : ℕ) (checked : (m, p) ≡ lent A n (length old)) where
@@ -66,11 +85,16 @@ module _ (A n : ℕ) (old : List ℕ) (m p : ℕ) (checked : (m, p) ≡ lent A n
     pub first-letters : 0 < A
     first-letters = lent-clear A n (length old) clear-first .0
 
-    pub first-within : length old ≤ limit
-    first-within = let c = lent-clear A n (length old) clear-first in omega arith
+    pub first-within : n ≤ limit
+    first-within = lent-clear A n (length old) clear-first .2
 
-    pub first-least : (new : List ℕ) → First A (length old) new → Starts A n old (DONE, 0) new
-    first-least new f = starts clear-first (subst (λ (k : ℕ). First A k new) (lent-clear A n (length old) clear-first .3) f) refl
+    pub first-room : length old ≤ limit
+    first-room = let c = lent-clear A n (length old) clear-first in omega arith
+
+    pub first-least : (new t : List ℕ) → First A n (take n t) → new ≡ take (length old) t → Starts A n old (DONE, 0) new
+    first-least new t f h =
+        let m : length old ≡ n = lent-clear A n (length old) clear-first .3 in
+        starts clear-first (subst (λ (x : List ℕ). First A n x) (sym (h ∙ ap (λ (k : ℕ). take k t) m)) f) refl
 
 -- the next array
 module _ (A : ℕ) (e : List ℕ) (n p : ℕ) (checked : (n, p) ≡ sizes A (length e)) where
@@ -87,24 +111,27 @@ module _ (A : ℕ) (e : List ℕ) (n p : ℕ) (checked : (n, p) ≡ sizes A (len
     pub next-within : length e ≤ limit
     next-within = sizes-clear A (length e) clear-next .2
 
-    module _ (w q : ℕ) (judged : (w, q) ≡ verdict A e) where
+    module _ (t : List ℕ) (w q : ℕ) (held : Holds t e) (judged : (w, q) ≡ verdict A (take (length e) t)) where
+      stands : w ≡ DONE → Stands A e
+      stands = standing (held-verdict A e t w q held judged) next-letters
+
       pub next-breaks : (w ≡ DONE → ⊥) → Steps A e (w, q) e
-      next-breaks d = breaks clear-next (not-standing judged d) judged refl
+      next-breaks d = breaks clear-next (not-standing (held-verdict A e t w q held judged) d) (held-verdict A e t w q held judged) refl
 
-      module _ (z : w ≡ DONE) (new : List ℕ) (t : Bool) (step : Stepped A e new t) where
-        pub next-steps : t ≡ true → Steps A e (DONE, 0) new
-        next-steps y = go step
+      module _ (z : w ≡ DONE) (u : List ℕ) (s : Bool) (step : Stepped A (take (length e) t) (take (length e) u) s) where
+        pub next-steps : (new : List ℕ) → s ≡ true → new ≡ take (length e) u → Steps A e (DONE, 0) new
+        next-steps new y h = go (subst (λ (f : List ℕ). Stepped A f (take (length e) u) s) (held .array) step)
           where
-            go : Stepped A e new t → Steps A e (DONE, 0) new
-            go (stepped s f) = steps clear-next (standing judged next-letters z) f refl
-            go (ended s f k) = absurd (not-both y s)
+            go : Stepped A e (take (length e) u) s → Steps A e (DONE, 0) new
+            go (stepped r f) = steps clear-next (stands z) (subst (λ (x : List ℕ). Next A e x) (sym h) f) refl
+            go (ended r f k) = absurd (not-both y r)
 
-        pub next-ends : t ≡ false → Steps A e (LAST, 0) new
-        next-ends y = go step
+        pub next-ends : s ≡ false → Steps A e (LAST, 0) e
+        next-ends y = go (subst (λ (f : List ℕ). Stepped A f (take (length e) u) s) (held .array) step)
           where
-            go : Stepped A e new t → Steps A e (LAST, 0) new
-            go (stepped s f) = absurd (not-both s y)
-            go (ended s f k) = ends clear-next (standing judged next-letters z) f refl k
+            go : Stepped A e (take (length e) u) s → Steps A e (LAST, 0) e
+            go (stepped r f) = absurd (not-both r y)
+            go (ended r f k) = ends clear-next (stands z) f refl refl
 
 -- a counted n is within its limit
 pub count-within : (A n m p : ℕ) → (m, p) ≡ refusal (alphabet A ∷ long countLimit n ∷ []) → m ≡ DONE → n ≤ countLimit

@@ -156,7 +156,7 @@ pub fn rebuild(a: usize, e: &[u16], row: &mut [u8]) -> Answer
     }
     let mut t = [0u16; 4096];
     arrays::hold(e, &mut t);
-    let v = arrays::judge(a, &t, e.len());
+    let v = arrays::judge(a, &t, row.len());
     if v.number != DONE {
         return Answer {
             number: v.number,

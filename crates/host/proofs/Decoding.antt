@@ -1,13 +1,14 @@
 -- Bytes and the echoes that they stand for. Assumes nothing.
-use mathlib.Core.Path.{_≡_, refl, sym, ap, subst, _∙_}
+use mathlib.Core.Path.{_≡_, refl, sym, ap, _∙_}
 use mathlib.Core.List.{List, [], _∷_}
 use Prim.Native.Nat.{ℕ, zero, suc, _+_, _*_, _<_, _≤_}
 use native.Mathlib.Omega.{arith}
 use native.Mathlib.Numerals.{add-one}
-use lib.ListN.{length, getD, take}
+use lib.ListN.{length, getD}
 use Rattle.words.specs.Lists.{at, placed}
 use Rattle.words.specs.Outcomes.{decoded}
 use Rattle.words.specs.Numbers.{limit}
+use Rattle.arrays.specs.Steps.{Holds}
 use Rattle.arrays.proofs.Tables.{Copied, copied-more, held-done}
 
 pub decoded-long : (l : List ℕ) (n : ℕ) → length l ≡ 2 * n → length (decoded l) ≡ n
@@ -35,5 +36,5 @@ module _ {l t : List ℕ} {i : ℕ} (decoding : Copied (decoded l) t limit i) (n
   decode-more u low high v h p q r = copied-more decoding u v (omega arith)
       (sym (ap (at (decoded l)) (add-one i) ∙ decoded-at l i (omega arith) ∙ rw (← p, ← q) (sym r)))
 
-  pub decode-done : n ≤ i → take n t ≡ decoded l
-  decode-done h = subst (λ (k : ℕ). take k t ≡ decoded l) (decoded-long l n bytes) (let e = decoded-long l n bytes in held-done decoding (omega arith) (omega arith))
+  pub decode-done : n ≤ i → Holds t (decoded l)
+  decode-done h = let e = decoded-long l n bytes in held-done decoding (omega arith) (omega arith)

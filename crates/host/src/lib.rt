@@ -6,8 +6,9 @@ use words::Verdict;
 ghost use mathlib.Core.Path.{_≡_};
 ghost use mathlib.Core.List.{[], _∷_};
 ghost use Prim.Native.Nat.{_+_, _*_, _≤_, _<_};
-ghost use lib.ListN.{length, take};
+ghost use lib.ListN.{length};
 ghost use Rattle.words.specs.Numbers.{limit, matching, refusal, sizes};
+ghost use Rattle.arrays.specs.Steps.{Holds};
 ghost use Rattle.words.specs.Outcomes.{decoded, host-judge-outcome, host-count-outcome};
 
 // The echo that two bytes stand for.
@@ -20,7 +21,7 @@ fn echo_of(low: u8, high: u8) -> usize
 // Writes the n echoes that the bytes stand for into the table.
 fn decode(bytes: &[u8], n: usize, t: &mut [u16; 4096])
     requires { ⌜ (length (now bytes) ≡ 2 * n) × (n ≤ limit) × (length (now t) ≡ limit) ⌝ }
-    ensures { λ _. ⌜ (take n (now (t .exit)) ≡ decoded (now (bytes .entry))) × (length (now (t .exit)) ≡ limit) ⌝ }
+    ensures { λ _. ⌜ Holds (now (t .exit)) (decoded (now (bytes .entry))) × (length (now (t .exit)) ≡ limit) ⌝ }
 {
     let mut i = 0;
     while i < n {

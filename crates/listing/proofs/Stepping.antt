@@ -11,14 +11,13 @@ use lib.Seq.{getD-take, length-take-le, take-take}
 use borrow.Author.Tests.{ltb-true, lt-ltb, le-ltb, eqb-true}
 use Rattle.words.specs.Lists.{both, at, placed}
 use Rattle.words.specs.Numbers.{DONE, limit}
-use Rattle.words.specs.Stand.{Stands, weighed, verdict}
+use Rattle.words.specs.Stand.{Stands, weighed}
 use Rattle.words.specs.Listing.{First, Next, StandsAfter}
 use Rattle.words.proofs.Lists.{either, same?, not-both, both-left, both-out, placed-long, placed-same, placed-other}
 use Rattle.words.proofs.Rows.{alike-take}
 use Rattle.arrays.specs.Steps.{Passes, Sound, peak}
 use Rattle.arrays.proofs.Rules.{weighed-first, passes-sound, passes-part, sound-small, peak-low, peak-stands, peak-most}
 use Rattle.arrays.proofs.Alike.{weighed-alike, passes-alike}
-use Rattle.arrays.proofs.Tables.{judged-passes}
 use Rattle.arrays.proofs.Theorem.{stands-passes, passes-stands}
 use Rattle.listing.specs.Sets.{Parts, Sized, Lowest, Highest}
 use Rattle.listing.specs.Values.{Seeks, Lower, LeastValue, repeated, Lows, Filled, Highs, Turned, Raised, Stepped, stepped, ended}
@@ -209,9 +208,9 @@ module _ (A : ℕ) (t : List ℕ) (k m p : ℕ) (is : m ≡ at t (k + 1)) (passe
               ∙ rw add-one (placed-same t (suc k) v (omega arith) room-there)
 
 -- `next`
-module _ (A : ℕ) (t : List ℕ) (n : ℕ) (room : n ≤ limit) (whole : length t ≡ limit) (good : verdict A (take n t) ≡ (DONE, 0)) where
+module _ (A : ℕ) (t : List ℕ) (n : ℕ) (room : n ≤ limit) (whole : length t ≡ limit) (good : Passes A (at t) n) where
   part : (k : ℕ) → k ≤ n → Passes A (at t) k
-  part k l = passes-part k l (judged-passes A t n (omega arith) good)
+  part k l = passes-part k l good
 
   module _ (k : ℕ) (turned : Turned (at t) n k) where
     highest : Highest (Stands A) (take n t) k

@@ -8,8 +8,8 @@ ghost use mathlib.Core.Path.{_≡_};
 ghost use Prim.Native.Nat.{suc, _+_, _-_, _≤_, _<_};
 ghost use lib.ListN.{length, take};
 ghost use Rattle.words.specs.Lists.{at};
-ghost use Rattle.words.specs.Numbers.{limit, DONE as done};
-ghost use Rattle.words.specs.Stand.{possible, verdict};
+ghost use Rattle.words.specs.Numbers.{limit};
+ghost use Rattle.words.specs.Stand.{possible};
 ghost use Rattle.words.proofs.Lists.{In};
 ghost use Rattle.words.specs.Listing.{countFrom, standing, count as countOf, First};
 ghost use Rattle.arrays.specs.Steps.{Passes, Sound, peak};
@@ -208,7 +208,7 @@ fn raise(a: usize, t: &mut [u16; 4096], k: usize, n: usize)
 // reads each place once; the place that rises walks its chain once for each letter. Behind it, over more than one letter, a place whose zero is full gets at
 // most one more than the echo of the echo before it, so the echoes fall along a chain, or stay and repeat; and behind a zero all are zero.
 pub fn next(a: usize, t: &mut [u16; 4096], n: usize) -> bool
-    requires { ⌜ (0 < a) × (n ≤ limit) × (length (now t) ≡ limit) × (verdict a (take n (now t)) ≡ (done, 0)) ⌝ }
+    requires { ⌜ (0 < a) × (n ≤ limit) × (length (now t) ≡ limit) × Passes a (at (now t)) n ⌝ }
     ensures { λ r. ⌜ Stepped a (take n (now (t .entry))) (take n (now (t .exit))) r × (length (now (t .exit)) ≡ limit) ⌝ }
 {
     let k = turn(t, n);

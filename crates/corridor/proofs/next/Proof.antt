@@ -1,6 +1,6 @@
 -- `corridor::next`. Assumes nothing.
 use borrow.Author.Needs.{needs}
-use Rattle.arrays.proofs.Places.{verdict-done}
+use Rattle.arrays.proofs.Tables.{cleared}
 use Rattle.corridor.proofs.Stepping.{next-refuses, next-breaks, next-letters, next-within, next-steps, next-ends}
 use Rattle.corridor.proofs.next.Statement.{statement}
 use Rattle.corridor.proofs.next.Tie as tie
@@ -11,8 +11,11 @@ sizes-requires c κs = search needs
 returns : tie.Need-returns
 returns c = search (needs, next-refuses)
 
+hold-requires : tie.Need-hold-requires
+hold-requires c κs = (search (needs, next-within), search needs)
+
 judge-requires : tie.Need-judge-requires
-judge-requires c κs = search (needs, next-within)
+judge-requires c κs = (search (needs, next-within), search needs)
 
 same-length : tie.Need-same-length
 same-length c = search needs
@@ -21,7 +24,10 @@ returns-2 : tie.Need-returns-2
 returns-2 c = search (needs, next-breaks)
 
 next-requires : tie.Need-next-requires
-next-requires c κs = (search (needs, next-letters), search (needs, next-within), search (needs, verdict-done))
+next-requires c κs = (search (needs, next-letters), search (needs, next-within), search needs, search (needs, cleared))
+
+give-requires : tie.Need-give-requires
+give-requires c κs = (search (needs, next-within), search needs)
 
 same-length-2 : tie.Need-same-length-2
 same-length-2 c = search needs
@@ -41,10 +47,12 @@ next-spec =
     (tie.spec
     sizes-requires
     returns
+    hold-requires
     judge-requires
     same-length
     returns-2
     next-requires
+    give-requires
     same-length-2
     returns-3
     same-length-3

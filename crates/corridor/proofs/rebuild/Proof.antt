@@ -1,7 +1,7 @@
 -- `corridor::rebuild`. Assumes nothing.
 use borrow.Author.Needs.{needs}
-use Rattle.arrays.proofs.Places.{verdict-done}
-use Rattle.corridor.proofs.Stepping.{rebuild-refuses, rebuild-breaks, rebuild-letters, rebuild-within, rebuild-matches, rebuild-least}
+use Rattle.arrays.proofs.Tables.{cleared}
+use Rattle.corridor.proofs.Stepping.{rebuild-refuses, rebuild-within, rebuild-breaks, rebuild-letters, rebuild-room, rebuild-least}
 use Rattle.corridor.proofs.rebuild.Statement.{statement}
 use Rattle.corridor.proofs.rebuild.Tie as tie
 
@@ -11,14 +11,17 @@ lent-requires c κs = search needs
 returns : tie.Need-returns
 returns c = search (needs, rebuild-refuses)
 
+hold-requires : tie.Need-hold-requires
+hold-requires c κs = (search (needs, rebuild-within), search needs)
+
 judge-requires : tie.Need-judge-requires
-judge-requires c κs = search (needs, rebuild-within)
+judge-requires c κs = (search (needs, rebuild-room), search needs)
 
 returns-2 : tie.Need-returns-2
 returns-2 c = search (needs, rebuild-breaks)
 
 rebuild-requires : tie.Need-rebuild-requires
-rebuild-requires c κs = (search (needs, rebuild-letters), search (needs, rebuild-matches), search (needs, verdict-done))
+rebuild-requires c κs = (search (needs, rebuild-letters), search (needs, rebuild-room), search (needs, cleared))
 
 same-length : tie.Need-same-length
 same-length c = search needs
@@ -32,6 +35,7 @@ rebuild-spec =
     (tie.spec
     lent-requires
     returns
+    hold-requires
     judge-requires
     returns-2
     rebuild-requires
