@@ -170,11 +170,11 @@ module _ (E : ℕ → ℕ) (n i m p : ℕ) (highs : Highs E n i) (is : m ≡ E i
   pub turn-found : m < p → Turned E n i
   turn-found l = record { highs = highs; grows = λ d. omega arith }
 
-  pub turn-on : p ≤ m → 0 < i → Highs E n (i - 1)
-  turn-on l h = record {
+  pub turn-on : p ≤ m → Highs E n (i - 1)
+  turn-on l = record {
     within = omega (arith, highs .within);
-    high = λ j a b. either (same? j (i - 1))
-        (λ q. let z : suc j ≡ i = omega arith in rw z (rw q (omega arith)))
+    high = λ j a b. either (same? (suc j) i)
+        (λ z. let q : j ≡ i - 1 = omega arith in rw z (rw q (omega arith)))
         (λ d. highs .high j (omega arith) b);
   }
 
