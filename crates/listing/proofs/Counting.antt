@@ -63,7 +63,8 @@ module _ (A : ℕ) (t : List ℕ) (i : ℕ) (passes : Passes A (at t) i) (within
 
   module _ (b k : ℕ) (later : i ≡ 0 → ⊥) (is : b ≡ at t i) (opened : k ≡ length (opens (at t) b)) where
     -- the first i places as an array of their own
-    behind : (P : ℕ → List ℕ → Type 0) → ((p : List ℕ) (n : ℕ) → length p ≡ suc n → Passes A (at p) (suc n) → k ≡ length (opens (at p) (at p (suc n))) → P k p) → P k (take i t)
+    behind : (P : ℕ → List ℕ → Type 0)
+        → ((p : List ℕ) (n : ℕ) → length p ≡ suc n → Passes A (at p) (suc n) → k ≡ length (opens (at p) (at p (suc n))) → P k p) → P k (take i t)
     behind P by = go i refl later
       where
         go : (j : ℕ) → i ≡ j → (j ≡ 0 → ⊥) → P k (take i t)
@@ -76,10 +77,12 @@ module _ (A : ℕ) (t : List ℕ) (i : ℕ) (passes : Passes A (at t) i) (within
             (opened ∙ ap length (ap (opens (at t)) is ∙ opens-alike a s (at t i) (small-at s i (omega arith) (omega arith)) ∙ ap (opens (at (take i t))) h))
 
     pub values-more : k < A → k + 1 ≡ countFrom (standing A) 1 (take i t)
-    values-more l = behind (λ k p. k + 1 ≡ countFrom (standing A) 1 p) (λ p n g s o. rw add-one (sym (count-last (standing A) p ∙ values-room p n g s (omega (arith, l)) ∙ ap suc (sym o))))
+    values-more l = behind (λ k p. k + 1 ≡ countFrom (standing A) 1 p)
+        (λ p n g s o. rw add-one (sym (count-last (standing A) p ∙ values-room p n g s (omega (arith, l)) ∙ ap suc (sym o))))
 
     pub values-all : A ≤ k → k ≡ countFrom (standing A) 1 (take i t)
-    values-all l = behind (λ k p. k ≡ countFrom (standing A) 1 p) (λ p n g s o. sym (count-last (standing A) p ∙ values-full p n g s (omega (arith, l)) ∙ sym o))
+    values-all l = behind (λ k p. k ≡ countFrom (standing A) 1 p)
+        (λ p n g s o. sym (count-last (standing A) p ∙ values-full p n g s (omega (arith, l)) ∙ sym o))
 
 -- the sum over the values, as a sum from 0 up
 module _ (ok : List ℕ → ℕ → Bool) (r : ℕ) (p : List ℕ) where
@@ -203,7 +206,8 @@ module _ (A : ℕ) (t : List ℕ) (i n : ℕ) (long : length t ≡ limit) (most 
       count-open r h =
           let s : n - i ≡ suc (n - (i + 1)) = omega arith in
           h ∙ sym (rw (s, count-tried ok (n - (i + 1)) (take i t), length-take-le i t (omega arith))
-          (tried-skip ok (n - (i + 1)) (take i t) (k + 1) (suc i) (omega (arith, peak-low i passes)) (λ m a b. no-value m (omega arith) (λ w. omega (arith, peak-most i m passes w)))))
+          (tried-skip ok (n - (i + 1)) (take i t) (k + 1) (suc i) (omega (arith, peak-low i passes))
+          (λ m a b. no-value m (omega arith) (λ w. omega (arith, peak-most i m passes w)))))
 
 -- the table keeps the first i places, whatever is written behind them
 pub kept-none : (t : List ℕ) (i : ℕ) → length t ≡ limit → Kept t t i
@@ -245,14 +249,17 @@ module _ (A : ℕ) (t : List ℕ) (i n m : ℕ) (tries : Tries A t i n m) where
     pub value-yes : (r : ℕ) (x : List ℕ) → w ≡ DONE → x ≡ placed t (i + 1) m → r ≡ countFrom (standing A) (n - (i + 1)) (take (i + 1) x)
         → r ≡ extension (standing A) (n - (i + 1)) (take i t) m
     value-yes r x z q h = h ∙ ap (countFrom (standing A) (n - (i + 1))) (ap (take (i + 1)) q ∙ placed-more t i m within)
-        ∙ sym (extension-yes (standing A) (n - (i + 1)) (take i t) m (yes-value A t i n (tries .long) (tries .most) (tries .passes) m (tries .within) (sym is ∙ z)))
+        ∙ sym (extension-yes (standing A) (n - (i + 1)) (take i t) m
+        (yes-value A t i n (tries .long) (tries .most) (tries .passes) m (tries .within) (sym is ∙ z)))
 
     pub value-no : (w ≡ DONE → ⊥) → 0 ≡ extension (standing A) (n - (i + 1)) (take i t) m
-    value-no d = sym (extension-no (standing A) (n - (i + 1)) (take i t) m (no-value A t i n (tries .long) (tries .most) (tries .passes) m (tries .within) (λ z. d (is ∙ z))))
+    value-no d = sym (extension-no (standing A) (n - (i + 1)) (take i t) m
+        (no-value A t i n (tries .long) (tries .most) (tries .passes) m (tries .within) (λ z. d (is ∙ z))))
 
 -- `try_values`: the value m, then the next below it
 module _ (A : ℕ) (t : List ℕ) (i n m : ℕ) (tries : Tries A t i n m) where
-  pub tried-last : (here : ℕ) → here ≡ extension (standing A) (n - (i + 1)) (take i t) m → m ≡ 0 → here ≡ tried (standing A) (n - (i + 1)) (take i t) (m + 1)
+  pub tried-last : (here : ℕ) → here ≡ extension (standing A) (n - (i + 1)) (take i t) m → m ≡ 0
+      → here ≡ tried (standing A) (n - (i + 1)) (take i t) (m + 1)
   unfolding tried
   tried-last here e z = let s : m + 1 ≡ suc 0 = omega arith in e ∙ rw (s, z) (omega arith)
 
@@ -283,7 +290,8 @@ module _ (A : ℕ) (t : List ℕ) (i n m : ℕ) (tries : Tries A t i n m) where
       next-tries = let s = tries-on in
           record { within = s .within; most = s .most; long = s .long; passes = s .passes; value = rw next (next-value (s .passes) m (s .value) (omega arith)) }
 
-      pub tried-more : (here rest : ℕ) → here ≡ extension (standing A) (n - (i + 1)) (take i t) m → rest ≡ tried (standing A) (n - (i + 1)) (take i u) (k + 1)
+      pub tried-more : (here rest : ℕ) → here ≡ extension (standing A) (n - (i + 1)) (take i t) m
+          → rest ≡ tried (standing A) (n - (i + 1)) (take i u) (k + 1)
           → here + rest ≡ tried (standing A) (n - (i + 1)) (take i t) (m + 1)
       tried-more here rest e h = rw (add-one m) (omega (arith, e, skipped, tried-suc (standing A) (n - (i + 1)) (take i t) m))
         where
@@ -292,11 +300,13 @@ module _ (A : ℕ) (t : List ℕ) (i n m : ℕ) (tries : Tries A t i n m) where
 
           skipped : rest ≡ tried (standing A) (n - (i + 1)) (take i t) m
           skipped = h ∙ sym (tried-skip (standing A) (n - (i + 1)) (take i u) (k + 1) m (omega (arith, below))
-              (λ j a b. no-value A u i n (s .long) (s .most) (s .passes) j (s .within) (λ v. value-gap (s .passes) m j (s .value) (omega arith) b v)))
+              (λ j a b. no-value A u i n (s .long) (s .most) (s .passes) j (s .within)
+              (λ v. value-gap (s .passes) m j (s .value) (omega arith) b v)))
               ∙ ap (λ (p : List ℕ). tried (standing A) (n - (i + 1)) p m) (kept .same)
 
 -- no sum of counts is above 20!; the first premise shows every variable that the conclusion does not
-pub sum-fits : (A : ℕ) (t u : List ℕ) (i n m k here rest : ℕ) → Tries A t i n m → Kept t u i → k ≡ peak (at u) (m - 1) → here ≡ extension (standing A) (n - (i + 1)) (take i t) m
+pub sum-fits : (A : ℕ) (t u : List ℕ) (i n m k here rest : ℕ) → Tries A t i n m → Kept t u i → k ≡ peak (at u) (m - 1)
+    → here ≡ extension (standing A) (n - (i + 1)) (take i t) m
     → rest ≡ tried (standing A) (n - (i + 1)) (take i u) (k + 1) → (m ≡ 0 → ⊥) → Fits w64 (here + rest)
 sum-fits A t u i n m k here rest s kept next e h some = let l = length-take-le i t (omega (arith, within A t i n m s)) in record {
   fits = omega (

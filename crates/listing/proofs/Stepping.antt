@@ -133,17 +133,20 @@ module _ (A : ℕ) (t : List ℕ) (n : ℕ) (room : n ≤ limit) (whole : length
   array-stands pos p = passes-stands pos (take n t) (rw array-long (passes-alike (alike-take t n) p))
 
   -- a standing array that goes along with it for j places has behind them a value that stands there
-  member-weighed : (z : List ℕ) (j : ℕ) → Sized (Stands A) (length (take n t)) z → j < length (take n t) → take j z ≡ take j (take n t) → weighed A (at t) j (getD z j 0) ≡ DONE
+  member-weighed : (z : List ℕ) (j : ℕ) → Sized (Stands A) (length (take n t)) z → j < length (take n t) → take j z ≡ take j (take n t)
+      → weighed A (at t) j (getD z j 0) ≡ DONE
   unfolding at
   member-weighed z j s h e =
       let p = stands-passes (s .is) in
       let l : j < length z = omega (arith, s .long) in
-      sym (weighed-alike A j (getD z j 0) (alike-along z t j (e ∙ take-take j n t (omega (arith, array-long)))) (sound-small j (passes-sound (passes-part j (omega arith) p)))) ∙ p .step j l
+      sym (weighed-alike A j (getD z j 0) (alike-along z t j (e ∙ take-take j n t (omega (arith, array-long))))
+      (sound-small j (passes-sound (passes-part j (omega arith) p)))) ∙ p .step j l
 
   array-lowest : (i : ℕ) → Lows A (at t) i n → Lowest (Stands A) (take n t) i
   unfolding at
   array-lowest i lows = record {
-    least = λ z s j a b e. let h : j < n = omega (arith, array-long) in rw (getD-take n t j 0 h) (lows .least j a h (getD z j 0) (member-weighed z j s b e));
+    least = λ z s j a b e. let h : j < n = omega (arith, array-long) in rw (getD-take n t j 0 h)
+        (lows .least j a h (getD z j 0) (member-weighed z j s b e));
   }
 
   array-highest : (i : ℕ) → Passes A (at t) n → Highs (at t) n i → Highest (Stands A) (take n t) i
@@ -156,7 +159,8 @@ module _ (A : ℕ) (t : List ℕ) (n : ℕ) (room : n ≤ limit) (whole : length
 -- `first`
 pub first-done : (A : ℕ) (t u : List ℕ) (n : ℕ) → Filled A t u 0 n → 0 < A → n ≤ limit → First A n (take n u)
 first-done A t u n h pos l = least-first A n (take n u) (first-steps (Stands A) (take n u) n
-    (record { is = array-stands A u n l (h .kept .long) pos (h .lows .passes); long = array-long A u n l (h .kept .long) }) (array-lowest A u n l (h .kept .long) 0 (h .lows)))
+    (record { is = array-stands A u n l (h .kept .long) pos (h .lows .passes); long = array-long A u n l (h .kept .long) })
+    (array-lowest A u n l (h .kept .long) 0 (h .lows)))
 
 -- `turn`
 pub turn-start : (E : ℕ → ℕ) (n i : ℕ) → i ≡ n → Highs E n i
@@ -169,11 +173,11 @@ module _ (E : ℕ → ℕ) (n i m p : ℕ) (highs : Highs E n i) (is : m ≡ E i
   pub turn-found : m < p → Turned E n i
   turn-found l = record { highs = highs; grows = λ d. omega arith }
 
-  pub turn-on : p ≤ m → 0 < i → Highs E n (i - 1)
-  turn-on l h = record {
+  pub turn-on : p ≤ m → Highs E n (i - 1)
+  turn-on l = record {
     within = omega (arith, highs .within);
-    high = λ j a b. either (same? j (i - 1))
-        (λ q. let z : suc j ≡ i = omega arith in rw z (rw q (omega arith)))
+    high = λ j a b. either (same? (suc j) i)
+        (λ z. let q : j ≡ i - 1 = omega arith in rw z (rw q (omega arith)))
         (λ d. highs .high j (omega arith) b);
   }
 
@@ -256,7 +260,8 @@ module _ (A : ℕ) (t : List ℕ) (n : ℕ) (room : n ≤ limit) (whole : length
 
         same : take (k - 1) t ≡ take (k - 1) u
         same = sym (take-placed (k - 1) (k - 1) (getD u (k - 1) 0) t (omega arith))
-            ∙ sym (take-take (k - 1) (suc (k - 1)) _ (omega arith)) ∙ ap (take (k - 1)) (sym (filled .kept .same)) ∙ take-take (k - 1) (suc (k - 1)) u (omega arith)
+            ∙ sym (take-take (k - 1) (suc (k - 1)) _ (omega arith)) ∙ ap (take (k - 1)) (sym (filled .kept .same))
+            ∙ take-take (k - 1) (suc (k - 1)) u (omega arith)
 
         parts : Parts (take n t) (take n u) (k - 1)
         parts = record {
@@ -269,7 +274,8 @@ module _ (A : ℕ) (t : List ℕ) (n : ℕ) (room : n ≤ limit) (whole : length
         next-done = stepped refl (least-next A (take n t) (take n u) (next-steps (Stands A) (take n t) (take n u) (k - 1) sized parts
             (subst (λ (j : ℕ). Highest (Stands A) (take n t) j) (omega arith) highest)
             (array-lowest A u n room (filled .kept .long) (suc (k - 1)) (filled .lows))
-            (λ z s q g. rw is (raises .least (getD z (k - 1) 0) (omega (arith, was)) (member-weighed A t n room whole z (k - 1) s (omega (arith, old, turn-in)) q)))))
+            (λ z s q g. rw is (raises .least (getD z (k - 1) 0) (omega (arith, was))
+            (member-weighed A t n room whole z (k - 1) s (omega (arith, old, turn-in)) q)))))
 
 -- what the step says, for an entry
 pub stepped-next : {A : ℕ} {e f : List ℕ} {t : Bool} → Stepped A e f t → t ≡ true → Next A e f

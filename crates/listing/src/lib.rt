@@ -204,9 +204,9 @@ fn raise(a: usize, t: &mut [u16; 4096], k: usize, n: usize)
     fill(a, t, k + 1, n)
 }
 
-// Steps from the array of n places, which stands, to the next of its length, and says whether there is one. The time is linear, up to the letters: `turn`
-// reads each place once; the place that rises walks its chain once for each letter. Behind it, over more than one letter, a place whose zero is full gets at
-// most one more than the echo of the echo before it, so the echoes fall along a chain, or stay and repeat; and behind a zero all are zero.
+// Steps from the array of n places, which stands, to the next of its length, and says whether there is one. The time is linear, up to the letters:
+// `turn` reads each place once; the place that rises walks its chain once for each letter. Behind it, over more than one letter, a place whose zero is
+// full gets at most one more than the echo of the echo before it, so the echoes fall along a chain, or stay and repeat; and behind a zero all are zero.
 pub fn next(a: usize, t: &mut [u16; 4096], n: usize) -> bool
     requires { ⌜ (0 < a) × (n ≤ limit) × (length (now t) ≡ limit) × Passes a (at (now t)) n ⌝ }
     ensures { λ r. ⌜ Stepped a (take n (now (t .entry))) (take n (now (t .exit))) r × (length (now (t .exit)) ≡ limit) ⌝ }

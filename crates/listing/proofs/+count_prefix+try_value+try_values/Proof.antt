@@ -1,5 +1,5 @@
--- The cycle of calls {count_prefix, try_values, try_value}: one lemma of `Counting` for each way out. What falls: the rest of the length, then the value.
--- Assumes nothing.
+-- The cycle of calls {count_prefix, try_values, try_value}: one lemma of `Counting` for each way out. What falls: the rest of the length, then the
+-- value. Assumes nothing.
 use borrow.Author.Needs.{needs}
 use Rattle.listing.proofs.Counting.{count-full, count-near, open-falls, open-tries, count-open, kept-none, kept-on, kept-placed, tries-small, tries-none, tried-passes, value-yes, value-no, tried-last, next-room, next-falls, next-tries, tried-more, sum-fits}
 use Prim.Native.Nat.{ℕ, _+_, _-_, _*_, _<_}
