@@ -12,7 +12,7 @@ use Rattle.words.specs.Numbers.{DONE, limit}
 use Rattle.words.specs.Stand.{weighed, numberAt, fails, firstBad, verdict}
 use Rattle.words.proofs.Lists.{either, same?, placed-long, placed-same, placed-other}
 use Rattle.words.proofs.Rows.{alike-part, alike-take}
-use Rattle.arrays.specs.Steps.{Passes, Holds, Clears, peak}
+use Rattle.arrays.specs.Steps.{Passes, Holds, Judges, peak}
 use Rattle.arrays.proofs.Rules.{passes-sound, passes-part, sound-small, peak-stands}
 use Rattle.arrays.proofs.Alike.{weighed-alike}
 use Rattle.arrays.proofs.Judging.{number-there, passes-none, passes-more, bad-start, bad-more, bad-here, bad-none}
@@ -28,11 +28,11 @@ pub record Judged (A : ℕ) (t : List ℕ) (n i p : ℕ) : Type 0 where
   pub top : p ≡ peak (at t) i
   pub left : firstBad A (take n t) ≡ firstOf (fails A (at (take n t))) (run (i + 1) (length (take n t) - i))
 
-pub refused-clear : (A : ℕ) (E : ℕ → ℕ) (n w : ℕ) → (w ≡ DONE → ⊥) → Clears A E n w
-refused-clear A E n w d = record { passes = λ z. absurd (d z) }
+pub judges-verdict : (A : ℕ) (t : List ℕ) (n w p : ℕ) → Judges A t n w p → (w, p) ≡ verdict A (take n t)
+judges-verdict A t n w p j = j .says
 
-pub cleared : {A : ℕ} {E : ℕ → ℕ} {n w : ℕ} → Clears A E n w → w ≡ DONE → Passes A E n
-cleared c z = c .passes z
+pub judges-passes : (A : ℕ) (t : List ℕ) (n w p : ℕ) → Judges A t n w p → w ≡ DONE → Passes A (at t) n
+judges-passes A t n w p j z = j .passes z
 
 pub judged-start : (A : ℕ) (t : List ℕ) (n : ℕ) → n ≤ limit → length t ≡ limit → Judged A t n 0 0
 unfolding peak
@@ -62,14 +62,14 @@ module _ {A : ℕ} {t : List ℕ} {n i p : ℕ} (judging : Judged A t n i p) whe
       left = bad-more A (take n t) i w number-same (judging .left) z;
     }
 
-    pub judged-here : (w ≡ DONE → ⊥) → (w, i + 1) ≡ verdict A (take n t)
-    judged-here d = bad-here A (take n t) i w number-same (judging .left) (omega (arith, judging .long)) d
+    pub judged-here : (w ≡ DONE → ⊥) → Judges A t n w (i + 1)
+    judged-here d = record {
+      says = bad-here A (take n t) i w number-same (judging .left) (omega (arith, judging .long)) d;
+      passes = λ z. absurd (d z);
+    }
 
-  pub judged-clear : n ≤ i → Clears A (at t) n DONE
-  judged-clear h = record { passes = λ z. passes-part n h (judging .passes) }
-
-  pub judged-done : n ≤ i → (DONE, 0) ≡ verdict A (take n t)
-  judged-done h = bad-none A (take n t) i (judging .left) (omega (arith, judging .long))
+  pub judged-done : n ≤ i → Judges A t n DONE 0
+  judged-done h = record { says = bad-none A (take n t) i (judging .left) (omega (arith, judging .long)); passes = λ z. passes-part n h (judging .passes) }
 
 -- the greatest value takes no walk
 pub number-top : (A : ℕ) (E : ℕ → ℕ) (i m p : ℕ) → Passes A E i → p ≡ peak E i → m ≡ p → DONE ≡ weighed A E i m

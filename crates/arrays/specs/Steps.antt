@@ -20,10 +20,6 @@ pub record Sound (E : ℕ → ℕ) (n : ℕ) : Type 0 where
   pub over : ℕ
   pub passes : Passes over E n
 
--- the number w of a judgement is 0 only if the first n values pass
-pub record Clears (A : ℕ) (E : ℕ → ℕ) (n w : ℕ) : Type 0 where
-  pub passes : w ≡ DONE → Passes A E n
-
 -- the greatest value behind the first n places: zero at the first place, and behind it one more than the echo before
 unfoldable pub peak : (ℕ → ℕ) → ℕ → ℕ
 peak E zero = 0
@@ -65,6 +61,11 @@ pub data Reason (A : ℕ) (E : ℕ → ℕ) (n m : ℕ) : ℕ → Type 0 where
   impossible : (Possible E n m → ⊥) → Reason A E n m IMPOSSIBLE
   hides : 0 < m → Possible E n m → hidden E (E n) m ≡ true → Reason A E n m HIDDEN
   full : 0 < n → m ≡ 0 → A ≤ length (opens E (E n)) → Reason A E n m FULL
+
+-- what judging the first n entries of the table t says: number and place are the verdict on that array, and with the number 0 its values pass
+pub record Judges (A : ℕ) (t : List ℕ) (n w p : ℕ) : Type 0 where
+  pub says : (w, p) ≡ verdict A (take n t)
+  pub passes : w ≡ DONE → Passes A (at t) n
 
 -- the verdict names the first place whose value does not stand behind those before it, with its number
 pub record Bad (A : ℕ) (e : List ℕ) : Type 0 where

@@ -18,8 +18,8 @@ ghost use Rattle.words.specs.Lists.{any, at, each};
 ghost use Rattle.words.specs.Rows.{card};
 ghost use Rattle.words.specs.Numbers.{letters, limit};
 ghost use Rattle.words.specs.Least.{leastNot, nextCard, rebuilt};
-ghost use Rattle.words.specs.Stand.{possible, opens, weight, weighed, verdict};
-ghost use Rattle.arrays.specs.Steps.{Passes, Sound, Holds, Clears, peak as peakOf};
+ghost use Rattle.words.specs.Stand.{possible, opens, weight, weighed};
+ghost use Rattle.arrays.specs.Steps.{Passes, Sound, Holds, Judges, peak as peakOf};
 
 // Writes the echoes into the table.
 pub fn hold(e: &[u16], t: &mut [u16; 4096])
@@ -118,8 +118,7 @@ fn number_below(a: usize, t: &[u16; 4096], i: usize, m: usize, peak: usize) -> u
 // Number and first bad place of the array of n echoes over a letters.
 pub fn judge(a: usize, t: &[u16; 4096], n: usize) -> Verdict
     requires { ⌜ (n ≤ limit) × (length (now t) ≡ limit) ⌝ }
-    ensures judged { λ r. ⌜ (r .number, r .place) ≡ verdict a (take n (now (t .entry))) ⌝ }
-    ensures clear { λ r. ⌜ Clears a (at (now (t .entry))) n (r .number) ⌝ }
+    ensures { λ r. ⌜ Judges a (now (t .entry)) n (r .number) (r .place) ⌝ }
 {
     let mut i = 0;
     let mut peak = 0;

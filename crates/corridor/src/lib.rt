@@ -7,6 +7,8 @@ use words::LIMIT;
 ghost use mathlib.Core.Path.{_≡_};
 ghost use Prim.Native.Nat.{_≤_};
 ghost use lib.ListN.{length};
+ghost use Rattle.words.specs.Numbers.{limit, lent, sizes, DONE as done};
+ghost use Rattle.arrays.specs.Steps.{Holds};
 ghost use Rattle.words.specs.Strips.{closed, closing as closingOf, joint, joining as joiningOf};
 ghost use Rattle.words.specs.Outcomes.{echoes-outcome, reach-outcome, looks-outcome, sheet-outcome, guess-outcome, judge-outcome, count-outcome, Rebuilds, Starts, Steps};
 
@@ -143,6 +145,25 @@ pub fn judge(a: usize, e: &[u16]) -> Answer
     }
 }
 
+// Judges the array that the table holds and hands back the least row, where no check refuses.
+fn rebuild_in(a: usize, e: &[u16], row: &mut [u8], t: &[u16; 4096]) -> Answer
+    requires { ⌜ (lent a (length (now e)) (length (now row)) .0 ≡ done) × Holds (now t) (now e) × (length (now t) ≡ limit) ⌝ }
+    ensures { λ r. ⌜ Rebuilds a (now (e .entry)) (now (row .entry)) (r .number, r .place) (now (row .exit)) ⌝ }
+{
+    let v = arrays::judge(a, t, row.len());
+    if v.number != DONE {
+        return Answer {
+            number: v.number,
+            place: v.place,
+        };
+    }
+    arrays::rebuild(a, t, row);
+    Answer {
+        number: DONE,
+        place: 0,
+    }
+}
+
 // Judges the array and hands back the least row that has it, in a buffer with as many entries. Numbers 1, 2, 3, 5, 6 and 7.
 pub fn rebuild(a: usize, e: &[u16], row: &mut [u8]) -> Answer
     ensures { λ r. ⌜ Rebuilds a (now (e .entry)) (now (row .entry)) (r .number, r .place) (now (row .exit)) ⌝ }
@@ -156,18 +177,7 @@ pub fn rebuild(a: usize, e: &[u16], row: &mut [u8]) -> Answer
     }
     let mut t = [0u16; 4096];
     arrays::hold(e, &mut t);
-    let v = arrays::judge(a, &t, row.len());
-    if v.number != DONE {
-        return Answer {
-            number: v.number,
-            place: v.place,
-        };
-    }
-    arrays::rebuild(a, &t, row);
-    Answer {
-        number: DONE,
-        place: 0,
-    }
+    rebuild_in(a, e, row, &t)
 }
 
 // The same with a length, which is 0 beside every number but 0.
@@ -255,28 +265,20 @@ pub fn first(a: usize, n: usize, out: &mut [u16]) -> Answer
     }
 }
 
-// Replaces the array by the least standing one of its length that is greater. Numbers 1, 2, 5, 6, 7 and 9.
-pub fn next(a: usize, e: &mut [u16]) -> Answer
+// Steps from the array, which the table holds, where no check refuses.
+fn next_in(a: usize, e: &mut [u16], t: &mut [u16; 4096]) -> Answer
+    requires { ⌜ (sizes a (length (now e)) .0 ≡ done) × Holds (now t) (now e) × (length (now t) ≡ limit) ⌝ }
     ensures { λ r. ⌜ Steps a (now (e .entry)) (r .number, r .place) (now (e .exit)) ⌝ }
 {
-    let r = checks::sizes(a, LIMIT, e.len());
-    if r.number != DONE {
-        return Answer {
-            number: r.number,
-            place: r.place,
-        };
-    }
-    let mut t = [0u16; 4096];
-    arrays::hold(e, &mut t);
-    let verdict = arrays::judge(a, &t, e.len());
+    let verdict = arrays::judge(a, t, e.len());
     if verdict.number != DONE {
         return Answer {
             number: verdict.number,
             place: verdict.place,
         };
     }
-    if listing::next(a, &mut t, e.len()) {
-        arrays::give(&t, e);
+    if listing::next(a, t, e.len()) {
+        arrays::give(t, e);
         Answer {
             number: DONE,
             place: 0,
@@ -287,4 +289,21 @@ pub fn next(a: usize, e: &mut [u16]) -> Answer
             place: 0,
         }
     }
+}
+
+// Replaces the array by the least standing one of its length that is greater. Numbers 1, 2, 5, 6, 7 and 9.
+pub fn next(a: usize, e: &mut [u16]) -> Answer
+    ensures { λ r. ⌜ Steps a (now (e .entry)) (r .number, r .place) (now (e .exit)) ⌝ }
+{
+    let n = e.len();
+    let r = checks::sizes(a, LIMIT, n);
+    if r.number != DONE {
+        return Answer {
+            number: r.number,
+            place: r.place,
+        };
+    }
+    let mut t = [0u16; 4096];
+    arrays::hold(e, &mut t);
+    next_in(a, e, &mut t)
 }

@@ -10,7 +10,7 @@ use Rattle.words.specs.Stand.{verdict}
 use Rattle.words.specs.Outcomes.{decoded, host-judge-outcome}
 use Rattle.words.proofs.Lists.{either, same?}
 use Rattle.words.proofs.Checks.{refusal-stop, refusal-last, refusal-clear, sizes-clear, matching-clear}
-use Rattle.arrays.specs.Steps.{Holds}
+use Rattle.arrays.specs.Steps.{Holds, Judges}
 use Rattle.host.specs.Answers.{judge-answer}
 use Rattle.host.proofs.Decoding.{decoded-long}
 use Rattle.host.proofs.Packing.{judge-bounds}
@@ -57,10 +57,10 @@ module _ (A n w q : ℕ) (l : List ℕ) (checked : (w, q) ≡ refusal (sizes A n
     pub judge-bytes : length l ≡ 2 * n
     judge-bytes = matching-clear (2 * n) (length l) (clear .1)
 
-    module _ (t : List ℕ) (k p : ℕ) (held : Holds t (decoded l)) (judged : (k, p) ≡ verdict A (take n t)) where
+    module _ (t : List ℕ) (k p : ℕ) (held : Holds t (decoded l)) (judged : Judges A t n k p) where
       says : (k, p) ≡ judge-answer A n l
       says = whole k p (refusal-last _ _ (w, q) (k, p) checked done
-          (judged ∙ ap (λ (m : ℕ). verdict A (take m t)) (sym (decoded-long l n judge-bytes)) ∙ ap (verdict A) (held .array)))
+          (judged .says ∙ ap (λ (m : ℕ). verdict A (take m t)) (sym (decoded-long l n judge-bytes)) ∙ ap (verdict A) (held .array)))
 
       pub judge-place : p ≤ limit
       judge-place = in-place A n l k p says

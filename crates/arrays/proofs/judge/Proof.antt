@@ -1,7 +1,7 @@
 -- `judge`: one lemma of `Tables` for each step. Assumes nothing.
 use borrow.Author.Needs.{needs}
 use Prim.Native.Nat.{_-_}
-use Rattle.arrays.proofs.Tables.{Judged, judged-start, judged-more, judged-here, judged-done, judged-clear, refused-clear}
+use Rattle.arrays.proofs.Tables.{Judged, judged-start, judged-more, judged-here, judged-done}
 use Rattle.arrays.proofs.judge.Statement.{statement}
 use Rattle.arrays.proofs.judge.Tie as tie
 
@@ -27,7 +27,7 @@ add-t10 : tie.Need-add-t10 Inv-loop μ-loop
 add-t10 c = search needs
 
 returns : tie.Need-returns Inv-loop μ-loop
-returns c = search (needs, judged-here, refused-clear)
+returns c = search (needs, judged-here)
 
 add-peak : tie.Need-add-peak Inv-loop μ-loop
 add-peak c = search needs
@@ -42,7 +42,7 @@ loop-again : tie.Need-loop-again Inv-loop μ-loop
 loop-again c = search (needs, judged-more)
 
 returns-2 : tie.Need-returns-2 Inv-loop μ-loop
-returns-2 c = search (needs, judged-done, judged-clear)
+returns-2 c = search (needs, judged-done)
 
 pub judge-spec : {M : Type 1} → statement M
 judge-spec =

@@ -2,7 +2,7 @@
 use borrow.Author.Needs.{needs}
 use Rattle.words.specs.Outcomes.{judge-outcome}
 use Rattle.words.proofs.Checks.{refusal-stop, refusal-last}
-use Rattle.corridor.proofs.Stepping.{next-within, held-verdict}
+use Rattle.corridor.proofs.Stepping.{judge-within, held-verdict}
 use Rattle.corridor.proofs.judge.Statement.{statement}
 use Rattle.corridor.proofs.judge.Tie as tie
 
@@ -14,10 +14,10 @@ unfolding judge-outcome
 returns c = search (needs, refusal-stop)
 
 hold-requires : tie.Need-hold-requires
-hold-requires c κs = (search (needs, next-within), search needs)
+hold-requires c κs = (search (needs, judge-within), search needs)
 
 judge-requires : tie.Need-judge-requires
-judge-requires c κs = (search (needs, next-within), search needs)
+judge-requires c κs = (search (needs, judge-within), search needs)
 
 returns-2 : tie.Need-returns-2
 unfolding judge-outcome
