@@ -1,16 +1,15 @@
 -- The theory of borders (001, Lemma 2.1), from the relation between two rows: the first k cards of Y are the last k of X[1..i]. A border is the case
 -- Y = X. Assumes nothing.
 use mathlib.Core.Path.{_≡_, refl, sym, ap, subst, _∙_}
-use mathlib.Core.Bool.{Bool, true, false}
+use mathlib.Core.Bool.{true}
 use mathlib.Core.Logic.{_↔_}
-use mathlib.Core.List.{List, [], _∷_}
 use Prim.Native.Nat.{ℕ, zero, suc, _+_, _-_, _≤_, _<_}
 use native.Mathlib.Omega.{arith}
 use lib.Dec.{eqb}
 use borrow.Author.Tests.{eqb-true, eq-eqb}
 use Rattle.words.specs.Lists.{greatest, keep, falling}
 use Rattle.words.specs.Rows.{agree, closes, echo, chain, borders, Small}
-use Rattle.words.proofs.Lists.{which, either, same?, not-both, greatest-low, greatest-passes, greatest-most, In, here, there, In-nil, In-cons, In-here, keep-in, keep-out, falling-in, falling-out, falling-falls, keep-falls, falls-same}
+use Rattle.words.proofs.Lists.{which, either, same?, not-both, greatest-low, greatest-passes, greatest-most, In, there, In-nil, In-cons, In-here, keep-in, keep-out, falling-in, falling-out, falling-falls, keep-falls, falls-same}
 use Rattle.words.proofs.Rows.{down-ind, chain-zero, chain-suc, chain-falls}
 use Rattle.rows.specs.Border.{Closes, Border}
 

@@ -1,17 +1,15 @@
 -- Growing what closes a row by one card: the three ways of the walk, the echo of the next place, and the overlap of two rows. Assumes nothing.
 use mathlib.Core.Path.{_≡_, refl, sym, ap, subst, _∙_}
-use mathlib.Core.Bool.{Bool, true, false}
-use mathlib.Core.List.{List}
-use Prim.Native.Nat.{ℕ, zero, suc, _+_, _-_, min, _≤_, _<_}
+use mathlib.Core.Bool.{true}
+use Prim.Native.Nat.{ℕ, zero, suc, min, _≤_, _<_}
 use native.Mathlib.Omega.{arith}
 use lib.Dec.{eqb}
 use borrow.Author.Tests.{eqb-true, eq-eqb}
-use Rattle.words.specs.Lists.{both, greatest}
 use Rattle.words.specs.Rows.{closes, echo}
 use Rattle.words.specs.Strips.{overlap}
 use Rattle.words.proofs.Lists.{either, same?, both-true, both-out, greatest-low, greatest-passes, greatest-most}
 use Rattle.rows.specs.Border.{Closes, Border, grows, grown}
-use Rattle.rows.proofs.Borders.{closes-in, closes-out, closes-none, closes-all, closes-trans, closes-of, closes-more, closes-less, closes-card, echo-border, echo-most, echo-below, closes-echo}
+use Rattle.rows.proofs.Borders.{closes-in, closes-out, closes-none, closes-all, closes-trans, closes-of, closes-more, closes-less, closes-card, echo-border, echo-most, closes-echo}
 
 -- what grows, and that nothing that grows is longer
 pub grown-parts : (Y : ℕ → ℕ) (b c k : ℕ) → grown Y b c ≡ suc k → Closes Y Y b k × (Y (suc k) ≡ c)

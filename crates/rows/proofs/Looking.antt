@@ -1,19 +1,14 @@
 -- Looks: the bound 2n - 2, and that they are a function of the echoes alone. Assumes nothing.
 use mathlib.Core.Path.{_≡_, refl, sym, ap, subst, _∙_}
-use mathlib.Core.Bool.{Bool, true, false, cond}
-use mathlib.Core.List.{List}
 use Prim.Native.Nat.{ℕ, zero, suc, _+_, _-_, _*_, _≤_, _<_}
 use native.Mathlib.Omega.{arith}
-use lib.Dec.{eqb}
-use lib.ListN.{length}
 use borrow.Author.Tests.{eq-eqb, ne-eqb}
-use Rattle.words.specs.Lists.{at}
-use Rattle.words.specs.Rows.{card, Small, Alike, echo, echoes, looksFrom, looksAt, looksTo, looks}
+use Rattle.words.specs.Rows.{Small, echo, looksFrom, looksAt, looksTo}
 use Rattle.words.proofs.Lists.{either, same?}
-use Rattle.words.proofs.Rows.{down-ind, looks-zero, looks-suc, looks-alike}
+use Rattle.words.proofs.Rows.{down-ind, looks-zero, looks-suc}
 use Rattle.rows.specs.Border.{Closes, Border, grown, looksOf}
-use Rattle.rows.proofs.Borders.{closes-all, closes-of, closes-trans, closes-more, closes-less, closes-card, echo-border, echo-most, echo-below, echo-rises, echo-small, closes-echo}
-use Rattle.rows.proofs.Growing.{grown-low, grown-here, grown-on, echo-next}
+use Rattle.rows.proofs.Borders.{closes-of, closes-trans, closes-more, closes-less, closes-card, echo-border, echo-most, echo-below, echo-rises, echo-small}
+use Rattle.rows.proofs.Growing.{grown-low, grown-on, echo-next}
 
 module _ {E : ℕ → ℕ} {n : ℕ} (small : Small E n) (X : ℕ → ℕ) (c : ℕ) where
   -- a look that finds its card is the last; one that does not goes on with the echo
@@ -23,11 +18,6 @@ module _ {E : ℕ → ℕ} {n : ℕ} (small : Small E n) (X : ℕ → ℕ) (c : 
 
   pub looks-on : (b : ℕ) → b < n → (X (suc (suc b)) ≡ c → ⊥) → looksFrom X E c (suc b) ≡ suc (looksFrom X E c (E (suc b)))
   looks-on b h d = looks-suc small X c b h ∙ rw (ne-eqb (X (suc (suc b))) c d)
-
-  pub looks-low : (b : ℕ) → b ≤ n → looksFrom X E c b ≤ suc b
-  looks-low = down-ind small (λ b. looksFrom X E c b ≤ suc b)
-      (omega (arith, looks-zero X E c))
-      (λ b h rest. either (same? (X (suc (suc b))) c) (λ e. omega (arith, looks-hit (suc b) h e)) (λ d. omega (arith, looks-on b h d, small .below b h)))
 
 module _ (X : ℕ → ℕ) where
   -- a look either lowers the border or grows it

@@ -1,13 +1,13 @@
 -- The walks and loops in the code's own terms: a lemma for each way out. Assumes nothing.
 use mathlib.Core.Path.{_≡_, refl, sym, ap, subst, _∙_}
 use mathlib.Core.List.{List}
-use Prim.Native.Nat.{ℕ, zero, suc, _+_, _-_, _*_, _≤_, _<_}
+use Prim.Native.Nat.{ℕ, zero, suc, _+_, _≤_, _<_}
 use native.Mathlib.Omega.{arith}
 use native.Mathlib.Numerals.{add-one}
 use lib.ListN.{length}
 use borrow.Author.Tests.{eq-eqb, ne-eqb}
-use Rattle.words.specs.Lists.{at, each, places, placed}
-use Rattle.words.specs.Rows.{card, Small, Alike, echo, echoes, looksFrom, looksAt, looksTo, looks}
+use Rattle.words.specs.Lists.{at, placed}
+use Rattle.words.specs.Rows.{card, Small, echo, echoes, looksFrom, looksAt, looksTo, looks}
 use Rattle.words.specs.Strips.{overlap}
 use Rattle.words.proofs.Lists.{either, same?, each-place, each-only, places-length, placed-long, placed-same, placed-other}
 use Rattle.words.proofs.Rows.{looks-zero, small-alike, alike-sym}
@@ -191,9 +191,6 @@ add-none x z = sym (ap (looksTo (card x) (echo (card x))) z)
 
 pub last-is : (x e : List ℕ) (r : ℕ) → e ≡ echoes x → 0 < length x → r ≡ at e (length x) → r ≡ echo (card x) (length x)
 last-is x e r q p z = z ∙ known-at (echoes-known x e q) p
-
-pub last-inside : (x e : List ℕ) → e ≡ echoes x → length x ≤ length e
-last-inside x e q = omega (arith, ap length q, echoes-long x)
 
 pub last-fits : (x e : List ℕ) (r : ℕ) → e ≡ echoes x → 0 < length x → r ≡ at e (length x) → r ≤ length x
 last-fits x e r q p z = omega (arith, last-is x e r q p z, echo-below (card x) (length x) p)

@@ -18,18 +18,12 @@ pub fn card_at(row: &[u8], i: usize) -> u8
     row[i - 1]
 }
 
-fn wide(x: u16) -> usize
-    ensures { λ r. ⌜ (r ≡ x) × (r < 65536) ⌝ }
-{
-    x as usize
-}
-
 // The echo at place i.
 pub fn echo_at(e: &[u16], i: usize) -> usize
     requires { do ⌜ (0 < i) × (i ≤ (← ⟦e.len()⟧)) ⌝ }
     ensures { λ r. ⌜ (r ≡ at (now (e .entry)) i) × (r < 65536) ⌝ }
 {
-    wide(e[i - 1])
+    words::wide(e[i - 1])
 }
 
 // Writes the echo k at place i.

@@ -8,7 +8,6 @@ use Rattle.words.specs.Lists.{each, joined}
 use Rattle.words.specs.Rows.{echoes}
 use Rattle.words.specs.Sheet.{Line, decimal, fields, line, text, lines, sheet}
 use Rattle.words.proofs.Lists.{In, here, there}
-use Rattle.sheets.specs.Tables.{periodsLine, tableLines}
 use Rattle.sheets.proofs.Decimal.{decimal-digits, decimal-read}
 
 -- digits end at the first byte that is none

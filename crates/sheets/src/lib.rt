@@ -2,8 +2,8 @@
 use words::DONE;
 use words::ROOM;
 ghost use mathlib.Core.Path.{_≡_};
-ghost use mathlib.Core.List.{List, [], _∷_};
-ghost use Prim.Native.Nat.{ℕ, _+_, _*_, _≤_, _<_};
+ghost use mathlib.Core.List.{[], _∷_};
+ghost use Prim.Native.Nat.{_+_, _*_, _≤_, _<_};
 ghost use lib.ListN.{length};
 ghost use Rattle.words.specs.Lists.{at};
 ghost use Rattle.words.specs.Rows.{Small};
@@ -15,12 +15,6 @@ ghost use Rattle.sheets.specs.Tables.{periodsLine, tableLines, lineCount
 
 // How many lines a sheet has.
 const LINES: usize = 5;
-
-fn wide(x: u16) -> usize
-    ensures { λ r. ⌜ (r ≡ x) × (r < 65536) ⌝ }
-{
-    x as usize
-}
 
 fn byte(out: &mut [u8], b: u8) -> usize
     requires { ⌜ 0 < length (now out) ⌝ }
@@ -81,7 +75,7 @@ fn numbers(out: &mut [u8], l: &[u16]) -> usize
     let mut at = 0;
     let mut i = 0;
     while i < l.len() {
-        let m = wide(l[i]);
+        let m = words::wide(l[i]);
         at += field(&mut out[at..], m);
         i += 1;
     }
@@ -181,7 +175,7 @@ fn numbers_len(l: &[u16]) -> usize
     let mut k = 0;
     let mut i = 0;
     while i < l.len() {
-        let m = wide(l[i]);
+        let m = words::wide(l[i]);
         k = k + 1 + width(m);
         i += 1;
     }

@@ -1,11 +1,10 @@
 -- Laws of tests, lists and places: membership, `any`, `every`, `keep`, `each`, the first and the greatest that passes. Assumes nothing.
 use mathlib.Core.Path.{_≡_, refl, sym, ap, subst, _∙_}
-use mathlib.Core.Bool.{Bool, true, false, cond, not}
+use mathlib.Core.Bool.{Bool, true, false}
 use mathlib.Core.Logic.{_⊎_, inl, inr, ⊎-elim}
 use mathlib.Core.List.{List, [], _∷_}
 use Prim.Native.Nat.{ℕ, zero, suc, _+_, _-_, _≤_, _<_}
 use native.Mathlib.Omega.{arith}
-use native.Mathlib.Numerals.{add-one}
 use lib.Dec.{ltb, eqb}
 use lib.ListN.{length, getD, set, length-set}
 use lib.Seq.{ext-getD, getD-set-same, getD-set-other}
@@ -170,10 +169,6 @@ module _ (p : ℕ → Bool) where
         (λ t. let h = ltb-false i n t in let z : n - (i + 1) ≡ 0 = omega arith in sym (first-none h) ∙ sym (ap (λ (m : ℕ). firstOf p (run (i + 1 + 1) m)) z))
 
 -- one place becomes one index here, and nowhere else
-pub at-suc : (l : List ℕ) (j : ℕ) → at l (suc j) ≡ getD l j 0
-unfolding at
-at-suc l j = refl
-
 pub index-at : (l : List ℕ) (i : ℕ) → 0 < i → getD l (i - 1) 0 ≡ at l i
 unfolding at
 index-at l zero h = absurd (omega arith)

@@ -1,14 +1,14 @@
 -- Equations of the words on rows: a card, a chain, looks, each at nothing and at one more. Assumes nothing.
 use mathlib.Core.Path.{_≡_, refl, sym, ap, _∙_}
-use mathlib.Core.Bool.{Bool, true, false, cond}
+use mathlib.Core.Bool.{cond}
 use mathlib.Core.List.{List, [], _∷_}
-use Prim.Native.Nat.{ℕ, zero, suc, _+_, _-_, _≤_, _<_}
+use Prim.Native.Nat.{ℕ, zero, suc, _-_, _≤_, _<_}
 use native.Mathlib.Omega.{arith}
 use lib.Dec.{eqb}
 use lib.ListN.{getD, take}
 use lib.Seq.{getD-take}
 use Rattle.words.specs.Lists.{at}
-use Rattle.words.specs.Rows.{card, Small, Alike, downIn, down, chain, looksFrom, looksAt, looksTo}
+use Rattle.words.specs.Rows.{card, Small, Alike, downIn, down, chain, looksFrom}
 use Rattle.words.proofs.Lists.{index-at, either, In, In-nil, In-cons, Falls}
 
 -- the card of place i is the byte at index i - 1

@@ -1,4 +1,7 @@
-// The numbers that come back.
+// The numbers that come back, the limits, and how a number of a lent table is read.
+ghost use mathlib.Core.Path.{_≡_};
+ghost use Prim.Native.Nat.{_<_};
+
 pub const DONE: u8 = 0;
 
 pub const ALPHABET: u8 = 1;
@@ -34,4 +37,11 @@ pub const FIRST_LETTER: u8 = b'a';
 pub struct Verdict {
     pub number: u8,
     pub place: usize,
+}
+
+// A number of a lent table as a size.
+pub fn wide(x: u16) -> usize
+    ensures { λ r. ⌜ (r ≡ x) × (r < 65536) ⌝ }
+{
+    x as usize
 }

@@ -1,9 +1,8 @@
+-- `rows::card_at`. Assumes nothing.
 use borrow.Author.Needs.{needs}
 use Rattle.words.proofs.Rows.{card-index}
 use Rattle.rows.proofs.card_at.Statement.{statement}
 use Rattle.rows.proofs.card_at.Tie as tie
-use Rattle.rows.proofs.card_at.Reads as reads
-use Rattle.rows.proofs.card_at.Lts as lts
 
 sub-result : tie.Need-sub-result
 sub-result c = search needs

@@ -1,10 +1,8 @@
+-- `rows::echo_at`. Assumes nothing.
 use borrow.Author.Needs.{needs}
 use Rattle.words.proofs.Lists.{at-index}
 use Rattle.rows.proofs.echo_at.Statement.{statement}
 use Rattle.rows.proofs.echo_at.Tie as tie
-use Rattle.rows.proofs.echo_at.Reads as reads
-use Rattle.rows.proofs.echo_at.Lts as lts
-use Rattle.rows.proofs.wide.Reads as wide-reads
 
 sub-wide : tie.Need-sub-wide
 sub-wide c = search needs

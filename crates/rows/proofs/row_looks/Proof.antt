@@ -1,10 +1,7 @@
+-- `rows::row_looks`. Assumes nothing.
 use borrow.Author.Needs.{needs}
 use Rattle.rows.proofs.row_looks.Statement.{statement}
 use Rattle.rows.proofs.row_looks.Tie as tie
-use Rattle.rows.proofs.row_looks.Reads as reads
-use Rattle.rows.proofs.row_looks.Lts as lts
-use Rattle.rows.proofs.echoes.Reads as echoes-reads
-use Rattle.rows.proofs.looks.Reads as looks-reads
 
 echoes-requires : tie.Need-echoes-requires
 echoes-requires c κs = search needs
