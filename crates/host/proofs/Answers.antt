@@ -4,6 +4,8 @@ use mathlib.Core.List.{List, [], _∷_}
 use Prim.Native.Nat.{ℕ, _+_, _*_, _≤_, _<_}
 use native.Mathlib.Omega.{arith}
 use lib.ListN.{length, take}
+use mir.Syntax.{w64}
+use mir.Val.{Fits}
 use borrow.Author.Tests.{eq-eqb, ne-eqb}
 use Rattle.words.specs.Numbers.{DONE, limit, matching, refusal, sizes}
 use Rattle.words.specs.Stand.{verdict}
@@ -16,8 +18,8 @@ use Rattle.host.proofs.Decoding.{decoded-long}
 use Rattle.host.proofs.Packing.{judge-bounds}
 
 -- 2n is a number of bytes where n is within the limit
-pub double-within : (A n w q : ℕ) → (w, q) ≡ sizes A n → w ≡ DONE → n ≤ limit
-double-within A n w q e z = sizes-clear A n (ap (λ (r : ℕ × ℕ). r .0) (sym e) ∙ z) .2
+pub double-fits : (A n w q : ℕ) → (w, q) ≡ sizes A n → w ≡ DONE → Fits w64 (2 * n)
+double-fits A n w q e z = record { fits = omega (arith, sizes-clear A n (ap (λ (r : ℕ × ℕ). r .0) (sym e) ∙ z) .2) }
 
 -- two checks, then the verdict
 nested : (c d v : ℕ × ℕ) → refusal (refusal (c ∷ d ∷ []) ∷ v ∷ []) ≡ refusal (c ∷ d ∷ v ∷ [])

@@ -30,7 +30,7 @@ decoded-at (low ∷ high ∷ l) (suc i) h =
     ∙ ap (λ (m : ℕ). getD (low ∷ high ∷ l) (2 * suc i) 0 + 256 * getD (low ∷ high ∷ l) m 0) q
 
 -- the loop that decodes: the first i echoes are in the table
-module _ {l t : List ℕ} {i : ℕ} (decoding : Copied (decoded l) t limit i) (n : ℕ) (bytes : length l ≡ 2 * n) (room : n ≤ limit) where
+module _ (l t : List ℕ) (i : ℕ) (decoding : Copied (decoded l) t limit i) (n : ℕ) (bytes : length l ≡ 2 * n) (room : n ≤ limit) where
   pub decode-more : (u : List ℕ) (low high v : ℕ) → i < n → low ≡ getD l (2 * i) 0 → high ≡ getD l (2 * i + 1) 0 → v ≡ low + 256 * high → u ≡ placed t (i + 1) v
       → Copied (decoded l) u limit (i + 1)
   decode-more u low high v h p q r = copied-more decoding u v (omega arith)
