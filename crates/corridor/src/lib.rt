@@ -29,17 +29,17 @@ pub struct Counted {
 pub fn echoes(a: usize, row: &[u8], out: &mut [u16]) -> Answer
     ensures { λ r. ⌜ (r .number, r .place, now (out .exit)) ≡ echoes-outcome a (now (row .entry)) (now (out .entry)) ⌝ }
 {
-    let r = checks::row_and_slice(a, row, out.len());
-    if r.number != DONE {
+    let answer = checks::row_and_slice(a, row, out.len());
+    if answer.number != DONE {
         return Answer {
-            number: r.number,
-            place: r.place,
+            number: answer.number,
+            place: answer.place,
         };
     }
     rows::echoes(row, out);
     Answer {
-        number: r.number,
-        place: r.place,
+        number: answer.number,
+        place: answer.place,
     }
 }
 
@@ -47,18 +47,18 @@ pub fn echoes(a: usize, row: &[u8], out: &mut [u16]) -> Answer
 pub fn looks(a: usize, row: &[u8]) -> Counted
     ensures { λ r. ⌜ (r .number, r .place, r .count) ≡ looks-outcome a (now (row .entry)) ⌝ }
 {
-    let r = checks::whole_row(a, row);
-    if r.number != DONE {
+    let seen = checks::whole_row(a, row);
+    if seen.number != DONE {
         return Counted {
-            number: r.number,
-            place: r.place,
+            number: seen.number,
+            place: seen.place,
             count: 0,
         };
     }
     let k = tables::looks_within(row);
     Counted {
-        number: r.number,
-        place: r.place,
+        number: seen.number,
+        place: seen.place,
         count: k as u64,
     }
 }
@@ -111,17 +111,17 @@ pub fn joining<'l, 'r>(left: &'l [u8], right: &'r [u8]) -> &'r [u8]
 pub fn reach(a: usize, row: &[u8], out: &mut [u16]) -> Answer
     ensures { λ r. ⌜ (r .number, r .place, now (out .exit)) ≡ reach-outcome a (now (row .entry)) (now (out .entry)) ⌝ }
 {
-    let checked = checks::row_and_slice(a, row, out.len());
-    if checked.number != DONE {
+    let lent = checks::row_and_slice(a, row, out.len());
+    if lent.number != DONE {
         return Answer {
-            number: checked.number,
-            place: checked.place,
+            number: lent.number,
+            place: lent.place,
         };
     }
     rows::reach::reaches(row, out);
     Answer {
-        number: checked.number,
-        place: checked.place,
+        number: lent.number,
+        place: lent.place,
     }
 }
 
@@ -191,11 +191,11 @@ pub struct Written {
 pub fn sheet(a: usize, row: &[u8], buf: &mut [u8]) -> Written
     ensures { λ r. ⌜ (r .number, r .place, r .length, now (buf .exit)) ≡ sheet-outcome a (now (row .entry)) (now (buf .entry)) ⌝ }
 {
-    let r = checks::whole_row(a, row);
-    if r.number != DONE {
+    let asked = checks::whole_row(a, row);
+    if asked.number != DONE {
         return Written {
-            number: r.number,
-            place: r.place,
+            number: asked.number,
+            place: asked.place,
             length: 0,
         };
     }
@@ -211,11 +211,11 @@ pub fn sheet(a: usize, row: &[u8], buf: &mut [u8]) -> Written
 pub fn guess(a: usize, hidden: &[u8], guess: &[u8]) -> Answer
     ensures { λ r. ⌜ (r .number, r .place) ≡ guess-outcome a (now (hidden .entry)) (now (guess .entry)) ⌝ }
 {
-    let r = checks::two_rows(a, hidden, guess);
-    if r.number != DONE {
+    let pair = checks::two_rows(a, hidden, guess);
+    if pair.number != DONE {
         return Answer {
-            number: r.number,
-            place: r.place,
+            number: pair.number,
+            place: pair.place,
         };
     }
     let d = checks::named(DIFFERS, tables::difference_within(hidden, guess));
@@ -229,18 +229,18 @@ pub fn guess(a: usize, hidden: &[u8], guess: &[u8]) -> Answer
 pub fn count(a: usize, n: usize) -> Counted
     ensures { λ r. ⌜ (r .number, r .place, r .count) ≡ count-outcome a n ⌝ }
 {
-    let r = checks::sizes(a, COUNT_LIMIT, n);
-    if r.number != DONE {
+    let size = checks::sizes(a, COUNT_LIMIT, n);
+    if size.number != DONE {
         return Counted {
-            number: r.number,
-            place: r.place,
+            number: size.number,
+            place: size.place,
             count: 0,
         };
     }
     let k = listing::count(a, n);
     Counted {
-        number: r.number,
-        place: r.place,
+        number: size.number,
+        place: size.place,
         count: k,
     }
 }
@@ -249,11 +249,11 @@ pub fn count(a: usize, n: usize) -> Counted
 pub fn first(a: usize, n: usize, out: &mut [u16]) -> Answer
     ensures { λ r. ⌜ Starts a n (now (out .entry)) (r .number, r .place) (now (out .exit)) ⌝ }
 {
-    let r = checks::lent(a, n, out.len());
-    if r.number != DONE {
+    let room = checks::lent(a, n, out.len());
+    if room.number != DONE {
         return Answer {
-            number: r.number,
-            place: r.place,
+            number: room.number,
+            place: room.place,
         };
     }
     let mut t = [0u16; 4096];
