@@ -22,7 +22,7 @@ use Rattle.arrays.specs.Steps.{Passes, Possible, peak}
 use Rattle.arrays.proofs.Rules.{small-at, possible-range, possible-suc, possible-top, possible-part, possible-below, weighed-done, passes-sound, passes-part, sound-small, peak-low, peak-most}
 use Rattle.arrays.proofs.Reasons.{above}
 use Rattle.arrays.proofs.Alike.{weighed-alike, passes-alike, opens-alike, behind-alike}
-use Rattle.listing.specs.Values.{extension, tried, Tries, Kept}
+use Rattle.listing.specs.Values.{tried, Tries, Kept}
 use Rattle.listing.proofs.Sizes.{count-last, count-fits}
 use Rattle.listing.proofs.Few.{values-first, values-room, values-full}
 use Rattle.listing.proofs.Peak.{passes-suc, weighed-take, standing-in}
@@ -86,28 +86,24 @@ module _ (A : ℕ) (t : List ℕ) (i : ℕ) (passes : Passes A (at t) i) (within
 
 -- the sum over the values, as a sum from 0 up
 module _ (ok : List ℕ → ℕ → Bool) (r : ℕ) (p : List ℕ) where
-  extension-yes : (m : ℕ) → ok p m ≡ true → extension ok r p m ≡ countFrom ok r (more p m)
-  unfolding extension
-  extension-yes m t = rw t
+  tried-yes : (m : ℕ) → ok p m ≡ true → tried ok r p (suc m) ≡ tried ok r p m + countFrom ok r (more p m)
+  unfolding tried
+  tried-yes m t = rw t
 
-  extension-no : (m : ℕ) → ok p m ≡ false → extension ok r p m ≡ 0
-  unfolding extension
-  extension-no m t = rw t
+  tried-no : (m : ℕ) → ok p m ≡ false → tried ok r p (suc m) ≡ tried ok r p m
+  unfolding tried
+  tried-no m t = rw t (omega arith)
 
   tried-run : (f c : ℕ) → sum (each (λ m. countFrom ok r (more p m)) (keep (ok p) (run c f))) + tried ok r p c ≡ tried ok r p (c + f)
-  unfolding sum each keep run tried
+  unfolding sum each keep run
   tried-run zero c = let z : c + 0 ≡ c = omega arith in rw z (omega arith)
   tried-run (suc f) c = let z : c + suc f ≡ suc c + f = omega arith in rw z (either (which (ok p c))
-      (λ t. rw t (omega (arith, tried-run f (suc c), extension-yes c t)))
-      (λ n. rw n (omega (arith, tried-run f (suc c), extension-no c n))))
+      (λ t. rw t (omega (arith, tried-run f (suc c), tried-yes c t)))
+      (λ n. rw n (omega (arith, tried-run f (suc c), tried-no c n))))
 
   count-tried : countFrom ok (suc r) p ≡ tried ok r p (suc (length p))
   unfolding countFrom values tried
   count-tried = let z : 0 + suc (length p) ≡ suc (length p) = omega arith in let h = rw z at (tried-run (suc (length p)) 0) in omega (arith, h)
-
-  tried-suc : (m : ℕ) → tried ok r p (suc m) ≡ tried ok r p m + extension ok r p m
-  unfolding tried
-  tried-suc m = refl
 
   -- no value from j up to k
   tried-skip : (j k : ℕ) → j ≤ k → ((m : ℕ) → j ≤ m → m < k → ok p m ≡ false) → tried ok r p k ≡ tried ok r p j
@@ -115,11 +111,15 @@ module _ (ok : List ℕ → ℕ → Bool) (r : ℕ) (p : List ℕ) where
   tried-skip (suc j) zero l h = absurd (omega arith)
   tried-skip j (suc k) l h = either (same? j (suc k))
       (λ e. ap (tried ok r p) (sym e))
-      (λ d. omega (arith, tried-suc k, extension-no k (h k (omega arith) (omega arith)), tried-skip j k (omega arith) (λ m a b. h m a (omega arith))))
+      (λ d. omega (arith, tried-no k (h k (omega arith) (omega arith)), tried-skip j k (omega arith) (λ m a b. h m a (omega arith))))
+
+  tried-rises : (m : ℕ) → tried ok r p m ≤ tried ok r p (suc m)
+  unfolding tried
+  tried-rises m = omega arith
 
   tried-up : (k d : ℕ) → tried ok r p k ≤ tried ok r p (k + d)
   tried-up k zero = let z : k + 0 ≡ k = omega arith in rw z (omega arith)
-  tried-up k (suc d) = let z : k + suc d ≡ suc (k + d) = omega arith in rw z (omega (arith, tried-suc (k + d), tried-up k d))
+  tried-up k (suc d) = let z : k + suc d ≡ suc (k + d) = omega arith in rw z (omega (arith, tried-rises (k + d), tried-up k d))
 
   tried-most : (k : ℕ) → k ≤ suc (length p) → tried ok r p k ≤ countFrom ok (suc r) p
   tried-most k l = let z : k + (suc (length p) - k) ≡ suc (length p) = omega arith in rw count-tried (rw z at (tried-up k (suc (length p) - k)))
@@ -195,7 +195,7 @@ module _ (A : ℕ) (t : List ℕ) (i n : ℕ) (long : length t ≡ limit) (most 
   count-near r z h = let s : n - i ≡ 1 = omega arith in h ∙ rw s
 
   module _ (k : ℕ) (inside : i ≤ n) (top : k ≡ peak (at t) i) where
-    pub open-falls : (x : ℕ) → (n - i) * 32 + 31 ≡ x → (n - i) * 32 + (k + 1) < x
+    pub open-falls : (x : ℕ) → (n - i) * 32 + 31 ≡ x → (n - i) * 32 + k < x
     open-falls x z = omega (arith, peak-low i passes)
 
     module _ (some : i ≡ n → ⊥) where
@@ -227,44 +227,26 @@ kept-placed t x u i m q h = record {
       ∙ take-take i (i + 1) _ (omega arith) ∙ rw add-one (take-placed i i m t (omega arith));
 }
 
--- the value m behind the first i places of t
+-- `try_values`: the value m behind the first i places of t, then the next below it
 module _ (A : ℕ) (t : List ℕ) (i n m : ℕ) (tries : Tries A t i n m) where
+  -- what the values below k count behind the first i places of v
+  abbrev sums : List ℕ → ℕ → ℕ
+  sums v k = tried (standing A) (n - (i + 1)) (take i v) k
+
   value-in : m ≤ i
   value-in = value-most (tries .passes) m (tries .value)
 
   within : i < length t
   within = omega (arith, tries .within, tries .most, tries .long)
 
-  -- `try_value`
   pub tries-small : m < 65536
   tries-small = omega (arith, tries .within, tries .most, value-in)
 
-  pub tries-none : Kept t t i
-  tries-none = kept-none t i (tries .long)
+  pub next-room : m - 1 ≤ limit
+  next-room = omega (arith, tries .within, tries .most, value-in)
 
-  module _ (w : ℕ) (is : w ≡ weighed A (at t) i m) where
-    pub tried-passes : (x : List ℕ) → x ≡ placed t (i + 1) m → w ≡ DONE → Passes A (at x) (i + 1)
-    tried-passes x q z = rw (q, add-one) (placed-passes A t i m within (tries .passes) (sym is ∙ z))
-
-    pub value-yes : (r : ℕ) (x : List ℕ) → w ≡ DONE → x ≡ placed t (i + 1) m → r ≡ countFrom (standing A) (n - (i + 1)) (take (i + 1) x)
-        → r ≡ extension (standing A) (n - (i + 1)) (take i t) m
-    value-yes r x z q h = h ∙ ap (countFrom (standing A) (n - (i + 1))) (ap (take (i + 1)) q ∙ placed-more t i m within)
-        ∙ sym (extension-yes (standing A) (n - (i + 1)) (take i t) m
-        (yes-value A t i n (tries .long) (tries .most) (tries .passes) m (tries .within) (sym is ∙ z)))
-
-    pub value-no : (w ≡ DONE → ⊥) → 0 ≡ extension (standing A) (n - (i + 1)) (take i t) m
-    value-no d = sym (extension-no (standing A) (n - (i + 1)) (take i t) m
-        (no-value A t i n (tries .long) (tries .most) (tries .passes) m (tries .within) (λ z. d (is ∙ z))))
-
--- `try_values`: the value m, then the next below it
-module _ (A : ℕ) (t : List ℕ) (i n m : ℕ) (tries : Tries A t i n m) where
-  pub tried-last : (here : ℕ) → here ≡ extension (standing A) (n - (i + 1)) (take i t) m → m ≡ 0
-      → here ≡ tried (standing A) (n - (i + 1)) (take i t) (m + 1)
-  unfolding tried
-  tried-last here e z = let s : m + 1 ≡ suc 0 = omega arith in e ∙ rw (s, z) (omega arith)
-
+  -- a table u that keeps the first i places has the same next value, and the same count below m
   module _ (u : List ℕ) (kept : Kept t u i) (some : m ≡ 0 → ⊥) where
-    -- the value is possible in u too
     tries-on : Tries A u i n m
     unfolding Possible
     tries-on = let a = alike-along t u i (sym (kept .same)) in record {
@@ -276,48 +258,71 @@ module _ (A : ℕ) (t : List ℕ) (i n m : ℕ) (tries : Tries A t i n m) where
           (λ (l, j). inr (l, subst (λ (v : List ℕ). In m v) (behind-alike a (sound-small i (passes-sound (tries .passes))) i l (omega arith)) j));
     }
 
-    pub next-room : m - 1 ≤ limit
-    next-room = omega (arith, tries .within, tries .most, value-in A t i n m tries)
-
     module _ (k : ℕ) (next : k ≡ peak (at u) (m - 1)) where
       below : k < m
       below = omega (arith, value-above (tries-on .passes) m (tries-on .value) (omega arith))
 
-      pub next-falls : (x : ℕ) → (n - i) * 32 + (m + 1) ≡ x → (n - i) * 32 + (k + 1) < x
+      pub next-falls : (x : ℕ) → (n - i) * 32 + m ≡ x → (n - i) * 32 + k < x
       next-falls x z = omega (arith, below)
 
       pub next-tries : Tries A u i n k
       next-tries = let s = tries-on in
           record { within = s .within; most = s .most; long = s .long; passes = s .passes; value = rw next (next-value (s .passes) m (s .value) (omega arith)) }
 
-      pub tried-more : (here rest : ℕ) → here ≡ extension (standing A) (n - (i + 1)) (take i t) m
-          → rest ≡ tried (standing A) (n - (i + 1)) (take i u) (k + 1)
-          → here + rest ≡ tried (standing A) (n - (i + 1)) (take i t) (m + 1)
-      tried-more here rest e h = rw (add-one m) (omega (arith, e, skipped, tried-suc (standing A) (n - (i + 1)) (take i t) m))
-        where
-          s : Tries A u i n m
-          s = tries-on
+      some-below : (rest : ℕ) → rest ≡ sums u (k + 1) → rest ≡ sums t m
+      some-below rest h = let s = tries-on in
+          h ∙ sym (tried-skip (standing A) (n - (i + 1)) (take i u) (k + 1) m (omega (arith, below))
+          (λ j a b. no-value A u i n (s .long) (s .most) (s .passes) j (s .within)
+          (λ v. value-gap (s .passes) m j (s .value) (omega arith) b v)))
+          ∙ ap (λ (p : List ℕ). tried (standing A) (n - (i + 1)) p m) (kept .same)
 
-          skipped : rest ≡ tried (standing A) (n - (i + 1)) (take i t) m
-          skipped = h ∙ sym (tried-skip (standing A) (n - (i + 1)) (take i u) (k + 1) m (omega (arith, below))
-              (λ j a b. no-value A u i n (s .long) (s .most) (s .passes) j (s .within)
-              (λ v. value-gap (s .passes) m j (s .value) (omega arith) b v)))
-              ∙ ap (λ (p : List ℕ). tried (standing A) (n - (i + 1)) p m) (kept .same)
+  none-below : m ≡ 0 → sums t m ≡ 0
+  unfolding tried
+  none-below z = rw z
 
--- no sum of counts is above 20!; the first premise shows every variable that the conclusion does not
-pub sum-fits : (A : ℕ) (t u : List ℕ) (i n m k here rest : ℕ) → Tries A t i n m → Kept t u i → k ≡ peak (at u) (m - 1)
-    → here ≡ extension (standing A) (n - (i + 1)) (take i t) m
-    → rest ≡ tried (standing A) (n - (i + 1)) (take i u) (k + 1) → (m ≡ 0 → ⊥) → Fits w64 (here + rest)
-sum-fits A t u i n m k here rest s kept next e h some = let l = length-take-le i t (omega (arith, within A t i n m s)) in record {
-  fits = omega (
-    arith,
-    s .within,
-    s .most,
-    tried-more A t i n m s u kept some k next here rest e h,
-    tried-most (standing A) (n - (i + 1)) (take i t) (m + 1) (omega (arith, l, value-in A t i n m s)),
-    count-fits (standing A) (suc (n - (i + 1))) (take i t) (omega (arith, l, s .within, s .most)),
-  );
-}
+  module _ (w : ℕ) (is : w ≡ weighed A (at t) i m) where
+    -- the value does not stand
+    module _ (fails : w ≡ DONE → ⊥) where
+      value-no : sums t (m + 1) ≡ sums t m
+      value-no = rw (add-one m) (tried-no (standing A) (n - (i + 1)) (take i t) m
+          (no-value A t i n (tries .long) (tries .most) (tries .passes) m (tries .within) (λ z. fails (is ∙ z))))
+
+      pub no-last : m ≡ 0 → 0 ≡ sums t (m + 1)
+      no-last z = omega (arith, value-no, none-below z)
+
+      pub no-more : (k rest : ℕ) → k ≡ peak (at t) (m - 1) → rest ≡ sums t (k + 1) → (m ≡ 0 → ⊥) → rest ≡ sums t (m + 1)
+      no-more k rest next h some = omega (arith, value-no, some-below t (kept-none t i (tries .long)) some k next rest h)
+
+    -- the value stands: x is the table with it written, and here is what it counts
+    module _ (x : List ℕ) (stands : w ≡ DONE) (put : x ≡ placed t (i + 1) m) where
+      pub tried-passes : Passes A (at x) (i + 1)
+      tried-passes = rw (put, add-one) (placed-passes A t i m within (tries .passes) (sym is ∙ stands))
+
+      module _ (here : ℕ) (counts : here ≡ countFrom (standing A) (n - (i + 1)) (take (i + 1) x)) where
+        value-yes : sums t (m + 1) ≡ sums t m + here
+        value-yes = let z = counts ∙ ap (countFrom (standing A) (n - (i + 1))) (ap (take (i + 1)) put ∙ placed-more t i m within) in
+            rw (add-one m, z) (tried-yes (standing A) (n - (i + 1)) (take i t) m
+            (yes-value A t i n (tries .long) (tries .most) (tries .passes) m (tries .within) (sym is ∙ stands)))
+
+        pub yes-last : m ≡ 0 → here ≡ sums t (m + 1)
+        yes-last z = omega (arith, value-yes, none-below z)
+
+        module _ (u : List ℕ) (k rest : ℕ) (kept : Kept x u (i + 1)) (next : k ≡ peak (at u) (m - 1)) (h : rest ≡ sums u (k + 1)) (some : m ≡ 0 → ⊥) where
+          pub yes-more : here + rest ≡ sums t (m + 1)
+          yes-more = omega (arith, value-yes, some-below u (kept-placed t x u i m put kept) some k next rest h)
+
+          -- no sum of counts is above 20!
+          pub sum-fits : Fits w64 (here + rest)
+          sum-fits = let l = length-take-le i t (omega (arith, within)) in record {
+            fits = omega (
+              arith,
+              tries .within,
+              tries .most,
+              yes-more,
+              tried-most (standing A) (n - (i + 1)) (take i t) (m + 1) (omega (arith, l, value-in)),
+              count-fits (standing A) (suc (n - (i + 1))) (take i t) (omega (arith, l, tries .within, tries .most)),
+            );
+          }
 
 -- `count`
 pub count-whole : (A n r : ℕ) → r ≡ countFrom (standing A) (n - 0) [] → r ≡ count A n

@@ -13,13 +13,10 @@ use Rattle.words.specs.Listing.{more, countFrom, Next, StandsAfter}
 use Rattle.words.proofs.Lists.{In}
 use Rattle.arrays.specs.Steps.{Passes, Sound, Possible, peak}
 
--- the count of p with the value m behind it, 0 where that is not accepted; the sum of these over the values below k
-unfoldable pub extension : (List ℕ → ℕ → Bool) → ℕ → List ℕ → ℕ → ℕ
-extension ok r p m = cond (ok p m) (countFrom ok r (more p m)) 0
-
+-- the sum, over the values below k that are accepted behind p, of the counts of p with that value behind it
 unfoldable pub tried : (List ℕ → ℕ → Bool) → ℕ → List ℕ → ℕ → ℕ
 tried ok r p zero = 0
-tried ok r p (suc k) = tried ok r p k + extension ok r p k
+tried ok r p (suc k) = tried ok r p k + cond (ok p k) (countFrom ok r (more p k)) 0
 
 -- the table u has the first i places of the table t
 pub record Kept (t u : List ℕ) (i : ℕ) : Type 0 where

@@ -14,7 +14,7 @@ ghost use Rattle.words.proofs.Lists.{In};
 ghost use Rattle.words.specs.Listing.{countFrom, standing, count as countOf, First};
 ghost use Rattle.arrays.specs.Steps.{Passes, Sound, peak};
 ghost use Rattle.listing.specs.Published.{published as publishedCounts};
-ghost use Rattle.listing.specs.Values.{extension, tried, Tries, Kept, cover as coverOf, Seeks, Lower, LeastValue, repeated, Lows, Filled, Turned, Raised, Stepped};
+ghost use Rattle.listing.specs.Values.{tried, Tries, Kept, cover as coverOf, Seeks, Lower, LeastValue, repeated, Lows, Filled, Turned, Raised, Stepped};
 
 // The counts over 26 letters for n = 1..10, as they were published.
 const PUBLISHED: [u64; 10] = [1, 2, 4, 9, 20, 47, 110, 263, 630, 1525];
@@ -62,31 +62,24 @@ fn count_prefix(a: usize, t: &mut [u16; 4096], i: usize, n: usize) -> u64
     }
 }
 
-// The same over the possible values at place i + 1 from m down the chain to zero.
+// The same over the possible values at place i + 1 from m down the chain to zero: each that stands is written there, and counted as a longer prefix.
 fn try_values(a: usize, t: &mut [u16; 4096], i: usize, n: usize, m: usize) -> u64
     requires { ⌜ Tries a (now t) i n m ⌝ }
     ensures counted { λ r. ⌜ r ≡ tried (standing a) (n - (i + 1)) (take i (now (t .entry))) (m + 1) ⌝ }
     ensures kept { λ _. ⌜ Kept (now (t .entry)) (now (t .exit)) i ⌝ }
 {
-    let here = try_value(a, t, i, n, m);
-    if m == 0 {
-        here
-    } else {
-        here + try_values(a, t, i, n, peak_at(t, m - 1))
-    }
-}
-
-// The same with the value m at place i + 1.
-fn try_value(a: usize, t: &mut [u16; 4096], i: usize, n: usize, m: usize) -> u64
-    requires { ⌜ Tries a (now t) i n m ⌝ }
-    ensures counted { λ r. ⌜ r ≡ extension (standing a) (n - (i + 1)) (take i (now (t .entry))) m ⌝ }
-    ensures kept { λ _. ⌜ Kept (now (t .entry)) (now (t .exit)) i ⌝ }
-{
     if number_of(a, t, i, m) == DONE {
         put_echo(t, i + 1, m);
-        count_prefix(a, t, i + 1, n)
-    } else {
+        let here = count_prefix(a, t, i + 1, n);
+        if m == 0 {
+            here
+        } else {
+            here + try_values(a, t, i, n, peak_at(t, m - 1))
+        }
+    } else if m == 0 {
         0
+    } else {
+        try_values(a, t, i, n, peak_at(t, m - 1))
     }
 }
 
