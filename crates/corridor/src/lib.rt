@@ -151,16 +151,16 @@ fn rebuild_in(a: usize, e: &[u16], row: &mut [u8], t: &[u16; 4096]) -> Answer
     ensures { λ r. ⌜ Rebuilds a (now (e .entry)) (now (row .entry)) (r .number, r .place) (now (row .exit)) ⌝ }
 {
     let v = arrays::judge(a, t, row.len());
-    if v.number != DONE {
+    if v.number == DONE {
+        arrays::rebuild(a, t, row);
         return Answer {
-            number: v.number,
-            place: v.place,
+            number: DONE,
+            place: 0,
         };
     }
-    arrays::rebuild(a, t, row);
     Answer {
-        number: DONE,
-        place: 0,
+        number: v.number,
+        place: v.place,
     }
 }
 
@@ -168,11 +168,11 @@ fn rebuild_in(a: usize, e: &[u16], row: &mut [u8], t: &[u16; 4096]) -> Answer
 pub fn rebuild(a: usize, e: &[u16], row: &mut [u8]) -> Answer
     ensures { λ r. ⌜ Rebuilds a (now (e .entry)) (now (row .entry)) (r .number, r .place) (now (row .exit)) ⌝ }
 {
-    let r = checks::lent(a, e.len(), row.len());
-    if r.number != DONE {
+    let fits = checks::lent(a, e.len(), row.len());
+    if fits.number != DONE {
         return Answer {
-            number: r.number,
-            place: r.place,
+            number: fits.number,
+            place: fits.place,
         };
     }
     let mut t = [0u16; 4096];
