@@ -1,19 +1,16 @@
 -- What is possible, hidden and open behind the first n places depends on those places alone. Assumes nothing.
-use mathlib.Core.Path.{_≡_, refl, sym, ap, _∙_}
+use mathlib.Core.Path.{_≡_, refl, ap, _∙_}
 use mathlib.Core.Bool.{not}
-use mathlib.Core.List.{List, _∷_}
 use Prim.Native.Nat.{ℕ, zero, suc, _≤_, _<_}
 use native.Mathlib.Omega.{arith}
 use lib.Dec.{ltb, eqb}
-use lib.ListN.{take}
-use lib.Seq.{getD-take}
 use Rattle.words.specs.Lists.{both, each, any, keep}
 use Rattle.words.specs.Rows.{Small, Alike}
 use Rattle.words.specs.Stand.{possible, hidden, opens, weight, weighed}
-use Rattle.words.proofs.Rows.{chain-alike, alike-at, alike-part, small-alike}
+use Rattle.words.proofs.Rows.{chain-alike, alike-at, alike-part}
 use Rattle.arrays.specs.Steps.{Passes}
 use Rattle.words.proofs.Lists.{any-same, keep-same}
-use Rattle.arrays.proofs.Rules.{possible-zero, possible-suc, possible-range, passes-sound, passes-part, sound-small}
+use Rattle.arrays.proofs.Rules.{possible-range, passes-sound, passes-part, sound-small}
 
 module _ {E F : ℕ → ℕ} {n : ℕ} (alike : Alike E F n) (small : Small E n) where
   pub possible-alike : (b : ℕ) → b ≤ n → possible E b ≡ possible F b

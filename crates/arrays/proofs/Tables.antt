@@ -9,7 +9,7 @@ use lib.Seq.{ext-getD, getD-take, length-take-le, take-all}
 use Rattle.words.specs.Lists.{firstOf, run, at, placed}
 use Rattle.words.specs.Rows.{Alike}
 use Rattle.words.specs.Numbers.{DONE, limit}
-use Rattle.words.specs.Stand.{weighed, numberAt, fails, firstBad, verdict}
+use Rattle.words.specs.Stand.{weighed, numberAt, fails, firstBad}
 use Rattle.words.proofs.Lists.{either, same?, placed-long, placed-same, placed-other}
 use Rattle.words.proofs.Rows.{alike-part, alike-take}
 use Rattle.arrays.specs.Steps.{Passes, Holds, Judges, peak}
@@ -27,9 +27,6 @@ pub record Judged (A : ℕ) (t : List ℕ) (n i p : ℕ) : Type 0 where
   pub passes : Passes A (at t) i
   pub top : p ≡ peak (at t) i
   pub left : firstBad A (take n t) ≡ firstOf (fails A (at (take n t))) (run (i + 1) (length (take n t) - i))
-
-pub judges-verdict : (A : ℕ) (t : List ℕ) (n w p : ℕ) → Judges A t n w p → (w, p) ≡ verdict A (take n t)
-judges-verdict A t n w p j = j .says
 
 pub judges-passes : (A : ℕ) (t : List ℕ) (n w p : ℕ) → Judges A t n w p → w ≡ DONE → Passes A (at t) n
 judges-passes A t n w p j z = j .passes z

@@ -11,8 +11,8 @@ use lib.Seq.{take-suc-set, take-all}
 use borrow.Author.Tests.{eq-eqb, ne-eqb}
 use Rattle.words.specs.Lists.{each, any, at}
 use Rattle.words.specs.Rows.{card, Small, Alike}
-use Rattle.words.specs.Numbers.{DONE, firstLetter}
-use Rattle.words.specs.Stand.{possible, verdict}
+use Rattle.words.specs.Numbers.{firstLetter}
+use Rattle.words.specs.Stand.{possible}
 use Rattle.words.specs.Least.{leastNot, freeLetter, nextCard, rebuilt}
 use Rattle.words.proofs.Rows.{small-less, alike-at, alike-part, alike-refl, alike-sym}
 use Rattle.arrays.specs.Steps.{Passes, Sound, Echoing}
@@ -21,7 +21,7 @@ use Rattle.arrays.proofs.Rules.{small-at, sound-small, sound-part, pass
 use Rattle.arrays.proofs.Cards.{echoing-alike}
 use Rattle.arrays.proofs.Growth.{fresh-tried, next-zero, next-more}
 use Rattle.arrays.proofs.Alike.{behind-alike}
-use Rattle.arrays.proofs.Places.{card-take, verdict-passes}
+use Rattle.arrays.proofs.Places.{card-take}
 use Rattle.arrays.proofs.Theorem.{rebuilt-echoing}
 
 -- the ways out of `taken`

@@ -1,23 +1,22 @@
 -- What the entries need of their checks, and the strips by their lengths: in the code's own terms. Assumes nothing.
-use mathlib.Core.Path.{_≡_, refl, sym, ap, subst, _∙_}
-use mathlib.Core.Bool.{Bool, true, false, cond}
+use mathlib.Core.Path.{_≡_, sym, ap, subst, _∙_}
+use mathlib.Core.Bool.{true}
 use mathlib.Core.List.{List, [], _∷_, _++_}
-use Prim.Native.Nat.{ℕ, zero, suc, _-_, _≤_, _<_}
+use Prim.Native.Nat.{ℕ, zero, _-_, _≤_, _<_}
 use native.Mathlib.Omega.{arith}
 use lib.Dec.{leb}
 use lib.ListN.{length, take, drop, length-drop}
 use lib.Seq.{take-all, length-take-le}
 use borrow.Author.Tests.{le-leb, lt-leb, ne-eqb}
 use Rattle.words.specs.Lists.{both, at}
-use Rattle.words.specs.Rows.{card, echo, echoes, reach, reaches}
+use Rattle.words.specs.Rows.{card, echo, echoes}
 use Rattle.words.specs.Numbers.{DONE, ROOM, DIFFERS, differing, named, letters, limit, long, matching, cards, unless, refusal, sizes, lent, rowed, paired}
 use Rattle.words.specs.Sheet.{sheet}
 use Rattle.words.specs.Outcomes.{given, kept, sheet-outcome, guess-outcome}
 use Rattle.words.specs.Strips.{closed, closing, overlap, joint, joining}
-use Rattle.words.proofs.Lists.{places-length, both-true, both-left, both-right, both-out, which, either}
+use Rattle.words.proofs.Lists.{both-true, both-left, both-right, which, either}
 use Rattle.words.proofs.Checks.{refusal-stop, refusal-last, refusal-clear, long-clear, matching-clear, sizes-clear, lent-clear}
 use Rattle.rows.proofs.Borders.{echo-zero}
-use Rattle.rows.proofs.Walks.{echoes-long}
 use Rattle.sheets.specs.Writing.{written}
 use Rattle.sheets.proofs.Outcome.{sheet-written}
 use Rattle.rows.proofs.Growing.{overlap-closes}

@@ -1,10 +1,9 @@
 -- Demand 3, over runs of the entries and from their contracts alone. Two hidden rows over one alphabet with equal echoes: whatever the buffer and the
 -- guess, refusals among it, sheet, looks and guess answer the same and leave the same. And equal sheets are of rows with equal echoes. Assumes nothing.
-use mathlib.Core.Path.{_≡_, refl, sym, ap, _∙_}
-use mathlib.Core.Bool.{Bool, true, cond}
+use mathlib.Core.Path.{_≡_, sym, ap, _∙_}
+use mathlib.Core.Bool.{true}
 use mathlib.Core.List.{List, [], _∷_, _++_}
 use Prim.Native.Nat.{ℕ}
-use native.Mathlib.Omega.{arith}
 use lib.Dec.{leb, eqb}
 use lib.ListN.{length, take, drop}
 use lib.Seq.{take-at}
@@ -12,10 +11,10 @@ use borrow.Author.Tests.{eq-eqb}
 use borrow.Fn.Kinds.{PK, RK, Out, Dens, resT, endedOf}
 use contract.Lifetimes.{Lfts}
 use denote.Triple.Clauses.{AtExit}
-use Rattle.words.specs.Rows.{echoes, reaches, periods, looks}
-use Rattle.words.specs.Numbers.{DONE, ROOM, DIFFERS, unless, over, cards, named, differing, refusal, rowed, paired}
+use Rattle.words.specs.Rows.{echoes, periods, looks}
+use Rattle.words.specs.Numbers.{DONE, ROOM, unless, over, cards, refusal, rowed}
 use Rattle.words.specs.Sheet.{lines, sheet}
-use Rattle.words.specs.Outcomes.{given, kept, counted, sheet-outcome, looks-outcome, guess-outcome}
+use Rattle.words.specs.Outcomes.{given, kept, sheet-outcome, looks-outcome, guess-outcome}
 use Rattle.words.proofs.Checks.{over-cards}
 use Rattle.rows.proofs.Walks.{echoes-long}
 use Rattle.rows.proofs.Alone.{rows-reach, rows-periods, rows-looks}

@@ -1,7 +1,6 @@
 -- Rebuilding and stepping in the demand's words, in the code's own terms: a lemma for each way out. Assumes nothing.
 use mathlib.Core.Path.{_≡_, refl, sym, ap, subst, _∙_}
 use mathlib.Core.Bool.{Bool, true, false}
-use mathlib.Core.Logic.{_⊎_, inl, inr}
 use mathlib.Core.List.{List, [], _∷_}
 use Prim.Native.Nat.{ℕ, _≤_, _<_}
 use native.Mathlib.Omega.{arith}
@@ -10,7 +9,7 @@ use Rattle.words.specs.Lists.{at}
 use Rattle.words.specs.Numbers.{DONE, LAST, letters, limit, countLimit, alphabet, long, refusal, sizes, lent}
 use Rattle.words.specs.Stand.{Stands, verdict}
 use Rattle.words.specs.Least.{LeastRow, rebuilt}
-use Rattle.words.specs.Listing.{First, Next, StandsAfter}
+use Rattle.words.specs.Listing.{First, Next}
 use Rattle.words.specs.Outcomes.{Rebuilds, Starts, Steps, refuses, breaks, rebuilds, starts, ends, steps}
 use Rattle.words.proofs.Lists.{not-both}
 use Rattle.words.proofs.Checks.{refusal-clear, long-clear, sizes-clear, lent-clear}

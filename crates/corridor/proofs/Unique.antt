@@ -1,6 +1,6 @@
 -- Each entry's contract determines its result and all lent memory: any two results that meet it on the same arguments are equal, and so is what every
 -- lent buffer holds. The statements cite the contracts themselves, `Post` of each function, so a changed contract is judged anew. Assumes nothing.
-use mathlib.Core.Path.{_≡_, refl, sym, ap, _∙_}
+use mathlib.Core.Path.{_≡_, sym, ap, _∙_}
 use mathlib.Core.List.{List}
 use Prim.Native.Nat.{ℕ}
 use borrow.Fn.Kinds.{PK, RK, Out, Dens, resT, endedOf}

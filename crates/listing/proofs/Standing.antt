@@ -5,9 +5,9 @@ use Prim.Native.Nat.{ℕ}
 use Rattle.words.specs.Stand.{Stands}
 use Rattle.words.specs.Least.{Least}
 use Rattle.words.specs.Listing.{StandsAt, StandsAfter, First, Next, head, behind}
-use Rattle.listing.specs.Sets.{Sized, After, Lists, Stepping, Visits}
+use Rattle.listing.specs.Sets.{Sized, After, Lists, Stepping}
 use Rattle.listing.proofs.Order.{least-alike}
-use Rattle.listing.proofs.Walk.{head-least, behind-least, behind-none, walk}
+use Rattle.listing.proofs.Walk.{head-least, behind-least, behind-none}
 
 module _ (A : ℕ) where
   pub at-sized : {n : ℕ} {f : List ℕ} → StandsAt A n f → Sized (Stands A) n f
@@ -54,7 +54,3 @@ module _ (A : ℕ) where
     last = λ x h none z a. none z (stands-after a);
     stops = λ x h none z a. none z (after-stands a);
   }
-
-  -- from the first array on they visit the list, each array once, and end
-  pub stands-walk : (n : ℕ) (f : List ℕ) (L : List (List ℕ)) → Lists (Stands A) n L → First A n f → Visits (Next A) (λ x. (z : List ℕ) → StandsAfter A x z → ⊥) f L
-  stands-walk n f L s h = walk (stepping n) f L s (first-least n f h)

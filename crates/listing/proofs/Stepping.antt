@@ -12,8 +12,8 @@ use borrow.Author.Tests.{ltb-true, lt-ltb, le-ltb, eqb-true}
 use Rattle.words.specs.Lists.{both, at, placed}
 use Rattle.words.specs.Numbers.{DONE, limit}
 use Rattle.words.specs.Stand.{Stands, weighed}
-use Rattle.words.specs.Listing.{First, Next, StandsAfter}
-use Rattle.words.proofs.Lists.{either, same?, not-both, both-left, both-out, placed-long, placed-same, placed-other}
+use Rattle.words.specs.Listing.{First}
+use Rattle.words.proofs.Lists.{either, same?, both-left, both-out, placed-long, placed-same, placed-other}
 use Rattle.words.proofs.Rows.{alike-take}
 use Rattle.arrays.specs.Steps.{Passes, Sound, peak}
 use Rattle.arrays.proofs.Rules.{weighed-first, passes-sound, passes-part, sound-small, peak-low, peak-stands, peak-most}
@@ -276,12 +276,3 @@ module _ (A : ℕ) (t : List ℕ) (n : ℕ) (room : n ≤ limit) (whole : length
             (array-lowest A u n room (filled .kept .long) (suc (k - 1)) (filled .lows))
             (λ z s q g. rw is (raises .least (getD z (k - 1) 0) (omega (arith, was))
             (member-weighed A t n room whole z (k - 1) s (omega (arith, old, turn-in)) q)))))
-
--- what the step says, for an entry
-pub stepped-next : {A : ℕ} {e f : List ℕ} {t : Bool} → Stepped A e f t → t ≡ true → Next A e f
-stepped-next (stepped y n) z = n
-stepped-next (ended y n k) z = absurd (not-both z y)
-
-pub stepped-last : {A : ℕ} {e f : List ℕ} {t : Bool} → Stepped A e f t → t ≡ false → ((z : List ℕ) → StandsAfter A e z → ⊥) × (f ≡ e)
-stepped-last (stepped y n) z = absurd (not-both y z)
-stepped-last (ended y n k) z = (n, k)

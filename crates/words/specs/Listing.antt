@@ -7,6 +7,7 @@ use Prim.Native.Nat.{ℕ, zero, suc}
 use lib.Dec.{eqb}
 use lib.ListN.{length}
 use Rattle.words.specs.Lists.{each, keep, joined, sum, equal, run, at}
+use Rattle.words.specs.Numbers.{DONE}
 use Rattle.words.specs.Stand.{Stands, weighed}
 use Rattle.words.specs.Least.{before, Least}
 
@@ -30,7 +31,7 @@ countFrom ok (suc r) p = sum (each (λ m. countFrom ok r (more p m)) (values ok 
 
 -- the test for the standing arrays over A, by the step rules
 unfoldable pub standing : ℕ → List ℕ → ℕ → Bool
-standing A p m = eqb (weighed A (at p) (length p) m) 0
+standing A p m = eqb (weighed A (at p) (length p) m) DONE
 
 -- how many arrays of n places stand over A
 unfoldable pub count : ℕ → ℕ → ℕ

@@ -2,7 +2,7 @@
 use borrow.Author.Needs.{needs}
 use mathlib.Core.Path.{_≡_}
 use lib.ListN.{length}
-use Prim.Native.Nat.{_-_, _≤_, _<_}
+use Prim.Native.Nat.{_-_, _<_}
 use Rattle.cases_listing.proofs.walk.Statement.{statement}
 use Rattle.cases_listing.proofs.walk.Tie as tie
 
