@@ -1,6 +1,6 @@
 // From echoes: judging an array, and the least row of one that stands. An array is held in a table of 4,096 entries, of which its echoes are the
-// first: a reference to such a table travels in a register, where a slice goes through memory, so a walk along the chain that calls itself runs as a
-// loop and needs no stack.
+// first. A reference to such a table travels in a register, where a slice goes through memory: so the walks of judging, which call themselves on the
+// next echo, run as loops and need no stack.
 use rows::card_at;
 use rows::echo_at;
 use rows::put_echo;

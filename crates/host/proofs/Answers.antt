@@ -9,11 +9,10 @@ use mir.Val.{Fits}
 use borrow.Author.Tests.{eq-eqb, ne-eqb}
 use Rattle.words.specs.Numbers.{DONE, limit, matching, refusal, sizes}
 use Rattle.words.specs.Stand.{verdict}
-use Rattle.words.specs.Outcomes.{decoded, host-judge-outcome}
+use Rattle.words.specs.Outcomes.{decoded, judge-answer, host-judge-outcome}
 use Rattle.words.proofs.Lists.{either, same?}
 use Rattle.words.proofs.Checks.{refusal-stop, refusal-last, refusal-clear, sizes-clear, matching-clear}
 use Rattle.arrays.specs.Steps.{Holds, Judges}
-use Rattle.host.specs.Answers.{judge-answer}
 use Rattle.host.proofs.Decoding.{decoded-long}
 use Rattle.host.proofs.Packing.{judge-bounds}
 
@@ -31,7 +30,7 @@ module _ (A n : ℕ) (l : List ℕ) (k p : ℕ) (is : (k, p) ≡ judge-answer A 
   in-place = omega (arith, judge-bounds A n l .1, ap (λ (r : ℕ × ℕ). r .1) is)
 
   packs : (r : ℕ) → r ≡ k + 256 * p → r ≡ host-judge-outcome A n l
-  unfolding host-judge-outcome judge-answer
+  unfolding host-judge-outcome
   packs r e = e ∙ ap (λ (s : ℕ × ℕ). s .0 + 256 * s .1) is
 
 module _ (A n w q : ℕ) (l : List ℕ) (checked : (w, q) ≡ refusal (sizes A n ∷ matching (2 * n) (length l) ∷ [])) where

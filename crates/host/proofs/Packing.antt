@@ -13,13 +13,12 @@ use Rattle.words.specs.Lists.{at}
 use Rattle.words.specs.Numbers.{DONE, IMPOSSIBLE, HIDDEN, FULL, LONG, limit, countLimit, unless, alphabet, long, matching, refusal, sizes}
 use Rattle.words.specs.Stand.{verdict}
 use Rattle.words.specs.Listing.{standing, count}
-use Rattle.words.specs.Outcomes.{decoded, given, counted, count-outcome, host-judge-outcome, host-count-outcome}
+use Rattle.words.specs.Outcomes.{decoded, given, counted, count-outcome, judge-answer, host-judge-outcome, host-count-outcome}
 use Rattle.words.proofs.Lists.{which, either, same?}
 use Rattle.words.proofs.Checks.{refusal-clear, long-clear, matching-clear, sizes-clear}
 use Rattle.arrays.proofs.Places.{judged}
 use Rattle.arrays.proofs.Reasons.{reason-in, reason-refused}
 use Rattle.listing.proofs.Sizes.{count-fits}
-use Rattle.host.specs.Answers.{judge-answer}
 use Rattle.host.proofs.Decoding.{decoded-long}
 
 -- number and place, number and count: two within their bounds that are packed alike are the same
@@ -70,7 +69,7 @@ judge-bounds A n l = chosen Within (sizes A n) (matching (2 * n) (length l)) (ve
 
 -- what the game reads: the number is the remainder, the place the quotient
 pub judge-read : (A n : ℕ) (l : List ℕ) → (host-judge-outcome A n l % 256 ≡ judge-answer A n l .0) × (host-judge-outcome A n l / 256 ≡ judge-answer A n l .1)
-unfolding host-judge-outcome judge-answer
+unfolding host-judge-outcome
 judge-read A n l = let (h, p) = judge-bounds A n l in (omega arith, omega arith)
 
 -- and so are number and count: no count of up to 20 places is above 20!

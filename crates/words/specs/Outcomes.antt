@@ -93,11 +93,13 @@ decoded [] = []
 decoded (low ∷ []) = []
 decoded (low ∷ high ∷ l) = (low + 256 * high) ∷ decoded l
 
+-- number and place of n echoes given as bytes
+unfoldable pub judge-answer : ℕ → ℕ → List ℕ → ℕ × ℕ
+judge-answer A n bytes = refusal (sizes A n ∷ matching (2 * n) (length bytes) ∷ verdict A (decoded bytes) ∷ [])
+
 -- the C functions: number + 256 * place, and number + 4 * count
 unfoldable pub host-judge-outcome : ℕ → ℕ → List ℕ → ℕ
-host-judge-outcome A n bytes =
-    let r = refusal (sizes A n ∷ matching (2 * n) (length bytes) ∷ verdict A (decoded bytes) ∷ []) in
-    r .0 + 256 * r .1
+host-judge-outcome A n bytes = let r = judge-answer A n bytes in r .0 + 256 * r .1
 
 unfoldable pub host-count-outcome : ℕ → ℕ → ℕ
 host-count-outcome A n = let r = count-outcome A n in r .0 + 4 * r .2
