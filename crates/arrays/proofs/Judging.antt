@@ -10,7 +10,8 @@ use borrow.Author.Tests.{eq-eqb, ne-eqb}
 use Rattle.words.specs.Lists.{firstOf, run, at}
 use Rattle.words.specs.Numbers.{DONE, IMPOSSIBLE, FULL}
 use Rattle.words.specs.Stand.{opens, weight, weighed, numberAt, fails, firstBad, verdict}
-use Rattle.words.proofs.Lists.{either, same?, first-start, first-more, first-here, first-none}
+use Rattle.words.proofs.Lists.{either, same?}
+use Rattle.words.proofs.Places.{first-start, first-more, first-here, first-none}
 use Rattle.arrays.specs.Steps.{Passes, Sound}
 use Rattle.arrays.proofs.Rules.{passes-sound, sound-part, sound-small, weighed-first, weighed-second, weighed-more, weighed-fits, weighed-full}
 

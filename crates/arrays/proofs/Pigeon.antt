@@ -11,7 +11,7 @@ use borrow.Author.Tests.{eqb-true, eqb-false, eq-eqb, ne-eqb, not-true}
 use Rattle.words.specs.Lists.{any, keep}
 use Rattle.words.specs.Numbers.{firstLetter}
 use Rattle.words.specs.Least.{leastNot, freeLetter}
-use Rattle.words.proofs.Lists.{which, either, same?, not-both, In, here, there, any-in, any-out, keep-yes, keep-no, keep-in, keep-out, in?}
+use Rattle.words.proofs.Lists.{which, either, same?, not-both, In, here, there, any-in, any-out, keep-yes, keep-no, keep-in, keep-out, keep-few, in?}
 
 -- no member stands twice
 unfoldable pub Distinct : List ℕ → Type 0
@@ -22,15 +22,8 @@ Distinct (x ∷ l) = (In x l → ⊥) × Distinct l
 abbrev pub but : ℕ → ℕ → Bool
 but c x = not (eqb c x)
 
-keep-at-most : (p : ℕ → Bool) (l : List ℕ) → length (keep p l) ≤ length l
-unfolding keep
-keep-at-most p [] = omega arith
-keep-at-most p (x ∷ l) = either (which (p x))
-    (λ t. rw (keep-yes p x l t) (omega (arith, keep-at-most p l)))
-    (λ f. rw (keep-no p x l f) (omega (arith, keep-at-most p l)))
-
 pub keep-shorter : (p : ℕ → Bool) {c : ℕ} {l : List ℕ} → In c l → p c ≡ false → length (keep p l) < length l
-keep-shorter p (here {l}) h = rw (keep-no p _ l h) (omega (arith, keep-at-most p l))
+keep-shorter p (here {l}) h = rw (keep-no p _ l h) (omega (arith, keep-few p l))
 keep-shorter p (there {x} {l} i) h = either (which (p x))
     (λ t. rw (keep-yes p x l t) (omega (arith, keep-shorter p i h)))
     (λ f. rw (keep-no p x l f) (omega (arith, keep-shorter p i h)))

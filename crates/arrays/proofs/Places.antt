@@ -8,13 +8,15 @@ use native.Mathlib.Omega.{arith}
 use lib.Dec.{ltb, leb}
 use lib.ListN.{length, getD, take}
 use lib.Seq.{getD-append-seam, getD-take}
-use borrow.Author.Tests.{ltb-true, le-ltb, leb-true, eqb-true, eqb-false, eq-eqb, ne-eqb, not-true, not-false}
+use borrow.Author.Tests.{ltb-true, leb-true, eqb-true, eqb-false, not-true, not-false}
 use Rattle.words.specs.Lists.{places, at}
 use Rattle.words.specs.Rows.{card, echo, echoes, Alike}
 use Rattle.words.specs.Numbers.{DONE, firstLetter, letter, over}
 use Rattle.words.specs.Stand.{weighed, numberAt, fails, firstBad, verdict}
 use Rattle.words.specs.Least.{before}
-use Rattle.words.proofs.Lists.{either, both-out, every-in, every-out, each-place, each-only, places-length, places-in, places-out, first-places}
+use Rattle.words.proofs.Lists.{either, both-out, every-in, every-out}
+use Rattle.words.proofs.Order.{before-head, before-tail, before-nil, before-asym}
+use Rattle.words.proofs.Places.{each-place, each-only, places-length, places-in, places-out, first-places}
 use Rattle.words.proofs.Checks.{letter-in}
 use Rattle.arrays.specs.Steps.{Passes, Inside, UpTo, equals, lower, Bad}
 use Rattle.arrays.proofs.Cards.{inside-at}
@@ -68,13 +70,12 @@ unfolding card at
 alike-rest a b x z n s = (s .same 0 (omega arith), record { same = λ i h. s .same (suc i) (omega arith) })
 
 pub up-to : (x z : List ℕ) → length x ≡ length z → UpTo (card x) (card z) (length x) → before z x ≡ false
-unfolding before card at
-up-to [] [] l u = refl
-up-to [] (b ∷ z) l u = absurd (omega arith)
+unfolding card at
+up-to [] z l u = before-nil z
 up-to (a ∷ x) [] l u = absurd (omega arith)
-up-to (a ∷ x) (b ∷ z) l (equals s) = let (e, r) = alike-rest a b x z (length x) s in rw (eq-eqb b a (sym e)) (up-to x z (omega arith) (equals r))
-up-to (a ∷ x) (b ∷ z) l (lower zero h s q) = rw (ne-eqb b a (λ e. omega arith)) (le-ltb b a (omega arith))
-up-to (a ∷ x) (b ∷ z) l (lower (suc k) h s q) = let (e, r) = alike-rest a b x z k s in rw (eq-eqb b a (sym e)) (up-to x z (omega arith) (lower k (omega arith) r q))
+up-to (a ∷ x) (b ∷ z) l (equals s) = let (e, r) = alike-rest a b x z (length x) s in before-tail b a z x (sym e) ∙ up-to x z (omega arith) (equals r)
+up-to (a ∷ x) (b ∷ z) l (lower zero h s q) = before-asym (a ∷ x) (b ∷ z) (before-head a b x z q)
+up-to (a ∷ x) (b ∷ z) l (lower (suc k) h s q) = let (e, r) = alike-rest a b x z k s in before-tail b a z x (sym e) ∙ up-to x z (omega arith) (lower k (omega arith) r q)
 
 -- the verdict: every place passes, or it names the first that does not
 fails-not : (A : ℕ) (E : ℕ → ℕ) (i : ℕ) → fails A E (suc i) ≡ false → weighed A E i (E (suc i)) ≡ DONE

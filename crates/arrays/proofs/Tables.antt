@@ -10,7 +10,8 @@ use Rattle.words.specs.Lists.{firstOf, run, at, placed}
 use Rattle.words.specs.Rows.{Alike}
 use Rattle.words.specs.Numbers.{DONE, limit}
 use Rattle.words.specs.Stand.{weighed, numberAt, fails, firstBad}
-use Rattle.words.proofs.Lists.{either, same?, placed-long, placed-same, placed-other}
+use Rattle.words.proofs.Lists.{either, same?}
+use Rattle.words.proofs.Places.{placed-long, placed-same, placed-other}
 use Rattle.words.proofs.Rows.{alike-part, alike-take}
 use Rattle.arrays.specs.Steps.{Passes, Holds, Judges, peak}
 use Rattle.arrays.proofs.Rules.{passes-sound, passes-part, sound-small, peak-stands}

@@ -4,12 +4,12 @@
 use rows::card_at;
 use rows::echo_at;
 use rows::put_echo;
+use words::Answer;
 use words::DONE;
 use words::FIRST_LETTER;
 use words::FULL;
 use words::HIDDEN;
 use words::IMPOSSIBLE;
-use words::Verdict;
 ghost use mathlib.Core.Path.{_≡_};
 ghost use Prim.Native.Nat.{suc, _+_, _≤_, _<_};
 ghost use lib.Dec.{eqb};
@@ -116,7 +116,7 @@ fn number_below(a: usize, t: &[u16; 4096], i: usize, m: usize, peak: usize) -> u
 }
 
 // Number and first bad place of the array of n echoes over a letters.
-pub fn judge(a: usize, t: &[u16; 4096], n: usize) -> Verdict
+pub fn judge(a: usize, t: &[u16; 4096], n: usize) -> Answer
     requires { ⌜ (n ≤ limit) × (length (now t) ≡ limit) ⌝ }
     ensures { λ r. ⌜ Judges a (now (t .entry)) n (r .number) (r .place) ⌝ }
 {
@@ -126,7 +126,7 @@ pub fn judge(a: usize, t: &[u16; 4096], n: usize) -> Verdict
         let m = echo(t, i + 1);
         let w = number_below(a, t, i, m, peak);
         if w != DONE {
-            return Verdict {
+            return Answer {
                 number: w,
                 place: i + 1,
             };
@@ -134,7 +134,7 @@ pub fn judge(a: usize, t: &[u16; 4096], n: usize) -> Verdict
         peak = m + 1;
         i += 1;
     }
-    Verdict {
+    Answer {
         number: DONE,
         place: 0,
     }

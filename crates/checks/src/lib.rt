@@ -1,6 +1,7 @@
 // The checks of what callers hand in, each written once.
 use rows::card_at;
 use words::ALPHABET;
+use words::Answer;
 use words::CARD;
 use words::DONE;
 use words::FIRST_LETTER;
@@ -8,83 +9,64 @@ use words::LETTERS;
 use words::LIMIT;
 use words::LONG;
 use words::MISMATCH;
-use words::Verdict;
 ghost use mathlib.Core.Path.{_≡_};
-ghost use Rattle.words.specs.Numbers.{letter as letterOf, outside as outsideOf, named as namedOf, alphabet as alphabetOf, long as longOf, matching as matchingOf, cards as cardsOf, sizes as sizesOf, lent as lentOf, paired as pairedOf, limit, refusal};
+ghost use Rattle.words.specs.Numbers.{letter as letterOf, outside as outsideOf, named as namedOf, unless as unlessOf, alphabet as alphabetOf, long as longOf, matching as matchingOf, cards as cardsOf, sizes as sizesOf, lent as lentOf, paired as pairedOf, limit, refusal};
 ghost use mathlib.Core.List.{[], _∷_};
 ghost use lib.ListN.{length};
 
 // The number n at place p, or done where p is 0.
-pub fn named(n: u8, p: usize) -> Verdict
+pub fn named(n: u8, p: usize) -> Answer
     ensures { λ r. ⌜ (r .number, r .place) ≡ namedOf n p ⌝ }
 {
     if p == 0 {
-        Verdict {
+        Answer {
             number: DONE,
             place: 0,
         }
     } else {
-        Verdict {
+        Answer {
             number: n,
             place: p,
         }
     }
 }
 
-// 1: A outside 1..26.
-pub fn alphabet(a: usize) -> Verdict
-    ensures { λ r. ⌜ (r .number, r .place) ≡ alphabetOf a ⌝ }
+// The number n at place 0, unless the test passes.
+fn unless(good: bool, n: u8) -> Answer
+    ensures { λ r. ⌜ (r .number, r .place) ≡ unlessOf good n ⌝ }
 {
-    if LETTERS < a {
-        Verdict {
-            number: ALPHABET,
-            place: 0,
-        }
-    } else if 0 < a {
-        Verdict {
+    if good {
+        Answer {
             number: DONE,
             place: 0,
         }
     } else {
-        Verdict {
-            number: ALPHABET,
+        Answer {
+            number: n,
             place: 0,
         }
     }
+}
+
+// 1: A outside 1..26.
+pub fn alphabet(a: usize) -> Answer
+    ensures { λ r. ⌜ (r .number, r .place) ≡ alphabetOf a ⌝ }
+{
+    unless((1 <= a) & (a <= LETTERS), ALPHABET)
 }
 
 // 2: a length n over the limit.
-pub fn long(limit: usize, n: usize) -> Verdict
+pub fn long(limit: usize, n: usize) -> Answer
     ensures { λ r. ⌜ (r .number, r .place) ≡ longOf limit n ⌝ }
 {
-    if limit < n {
-        Verdict {
-            number: LONG,
-            place: 0,
-        }
-    } else {
-        Verdict {
-            number: DONE,
-            place: 0,
-        }
-    }
+    unless(n <= limit, LONG)
 }
 
 // 3: a lent slice of m entries that must have n.
-pub fn matching(n: usize, m: usize) -> Verdict
+pub fn matching(n: usize, m: usize) -> Answer
     ensures { λ r. ⌜ (r .number, r .place) ≡ matchingOf n m ⌝ }
 {
-    if m == n {
-        Verdict {
-            number: DONE,
-            place: 0,
-        }
-    } else {
-        Verdict {
-            number: MISMATCH,
-            place: 0,
-        }
-    }
+    unless(m == n, MISMATCH)
 }
 
 // Whether c is one of the a letters.
@@ -114,14 +96,14 @@ fn outside(a: usize, row: &[u8]) -> usize
 }
 
 // 4: a card outside the alphabet, at its first place.
-pub fn cards(a: usize, row: &[u8]) -> Verdict
+pub fn cards(a: usize, row: &[u8]) -> Answer
     ensures { λ r. ⌜ (r .number, r .place) ≡ cardsOf a (now (row .entry)) ⌝ }
 {
     named(CARD, outside(a, row))
 }
 
 // 1, then 2: the alphabet, and a length n of at most so many.
-pub fn sizes(a: usize, most: usize, n: usize) -> Verdict
+pub fn sizes(a: usize, most: usize, n: usize) -> Answer
     ensures { λ r. ⌜ (r .number, r .place) ≡ refusal (alphabetOf a ∷ longOf most n ∷ []) ⌝ }
 {
     let r = alphabet(a);
@@ -132,7 +114,7 @@ pub fn sizes(a: usize, most: usize, n: usize) -> Verdict
 }
 
 // 1, 2, then 3: and a lent slice of m entries that must have n.
-pub fn lent(a: usize, n: usize, m: usize) -> Verdict
+pub fn lent(a: usize, n: usize, m: usize) -> Answer
     ensures { λ r. ⌜ (r .number, r .place) ≡ lentOf a n m ⌝ }
 {
     let r = sizes(a, LIMIT, n);
@@ -143,7 +125,7 @@ pub fn lent(a: usize, n: usize, m: usize) -> Verdict
 }
 
 // 1, 2, then 4: a row.
-pub fn whole_row(a: usize, row: &[u8]) -> Verdict
+pub fn whole_row(a: usize, row: &[u8]) -> Answer
     ensures { λ r. ⌜ (r .number, r .place) ≡ refusal (sizesOf a (length (now (row .entry))) ∷ cardsOf a (now (row .entry)) ∷ []) ⌝ }
 {
     let r = sizes(a, LIMIT, row.len());
@@ -154,7 +136,7 @@ pub fn whole_row(a: usize, row: &[u8]) -> Verdict
 }
 
 // 1, 2, 3, then 4: a row beside a lent slice of m entries.
-pub fn row_and_slice(a: usize, row: &[u8], m: usize) -> Verdict
+pub fn row_and_slice(a: usize, row: &[u8], m: usize) -> Answer
     ensures { λ r. ⌜ (r .number, r .place) ≡ refusal (lentOf a (length (now (row .entry))) m ∷ cardsOf a (now (row .entry)) ∷ []) ⌝ }
 {
     let r = lent(a, row.len(), m);
@@ -165,7 +147,7 @@ pub fn row_and_slice(a: usize, row: &[u8], m: usize) -> Verdict
 }
 
 // 1, 2, then 3: two rows of one length.
-fn two_lengths(a: usize, n: usize, m: usize) -> Verdict
+fn two_lengths(a: usize, n: usize, m: usize) -> Answer
     ensures { λ r. ⌜ (r .number, r .place) ≡ refusal (sizesOf a n ∷ longOf limit m ∷ matchingOf n m ∷ []) ⌝ }
 {
     let r = sizes(a, LIMIT, n);
@@ -180,7 +162,7 @@ fn two_lengths(a: usize, n: usize, m: usize) -> Verdict
 }
 
 // 1, 2, 3, then 4: the hidden row before the guess.
-pub fn two_rows(a: usize, hidden: &[u8], guess: &[u8]) -> Verdict
+pub fn two_rows(a: usize, hidden: &[u8], guess: &[u8]) -> Answer
     ensures { λ r. ⌜ (r .number, r .place) ≡ pairedOf a (now (hidden .entry)) (now (guess .entry)) ⌝ }
 {
     let r = two_lengths(a, hidden.len(), guess.len());

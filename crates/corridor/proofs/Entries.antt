@@ -1,14 +1,13 @@
 -- What the entries need of their checks, and the strips by their lengths: in the code's own terms. Assumes nothing.
 use mathlib.Core.Path.{_≡_, sym, ap, subst, _∙_}
-use mathlib.Core.Bool.{true}
 use mathlib.Core.List.{List, [], _∷_, _++_}
-use Prim.Native.Nat.{ℕ, zero, _-_, _≤_, _<_}
+use Prim.Native.Nat.{ℕ, _-_, _≤_, _<_}
 use native.Mathlib.Omega.{arith}
 use lib.Dec.{leb}
 use lib.ListN.{length, take, drop, length-drop}
 use lib.Seq.{take-all, length-take-le}
 use borrow.Author.Tests.{le-leb, lt-leb, ne-eqb}
-use Rattle.words.specs.Lists.{both, at}
+use Rattle.words.specs.Lists.{both}
 use Rattle.words.specs.Rows.{card, echo, echoes}
 use Rattle.words.specs.Numbers.{DONE, ROOM, DIFFERS, differing, named, letters, limit, long, matching, cards, unless, refusal, sizes, lent, rowed, paired}
 use Rattle.words.specs.Sheet.{sheet}

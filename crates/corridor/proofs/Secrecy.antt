@@ -4,14 +4,14 @@ use mathlib.Core.Path.{_≡_, sym, ap, _∙_}
 use mathlib.Core.Bool.{true}
 use mathlib.Core.List.{List, [], _∷_, _++_}
 use Prim.Native.Nat.{ℕ}
-use lib.Dec.{leb, eqb}
+use lib.Dec.{leb}
 use lib.ListN.{length, take, drop}
 use lib.Seq.{take-at}
 use borrow.Author.Tests.{eq-eqb}
 use borrow.Fn.Kinds.{PK, RK, Out, Dens, resT, endedOf}
 use contract.Lifetimes.{Lfts}
 use denote.Triple.Clauses.{AtExit}
-use Rattle.words.specs.Rows.{echoes, periods, looks}
+use Rattle.words.specs.Rows.{echoes, looks}
 use Rattle.words.specs.Numbers.{DONE, ROOM, unless, over, cards, refusal, rowed}
 use Rattle.words.specs.Sheet.{lines, sheet}
 use Rattle.words.specs.Outcomes.{given, kept, sheet-outcome, looks-outcome, guess-outcome}

@@ -66,11 +66,11 @@ module _ (A : ℕ) (e old : List ℕ) (clear : lent A (length e) (length old) .0
       same = rebuilt-alike (length old) (sound-small (length old) (passes-sound (judged .passes z))) (alike-take t (length old))
           ∙ ap (λ (k : ℕ). rebuilt (at (take k t)) k) matches ∙ ap (λ (f : List ℕ). rebuilt (at f) (length e)) (held .array)
 
-      pub rebuild-least : (new : List ℕ) → new ≡ rebuilt (at t) (length old) → Rebuilds A e old (DONE, 0) new
+      pub rebuild-least : (new : List ℕ) → new ≡ rebuilt (at t) (length old) → Rebuilds A e old (w, q) new
       unfolding LeastRow
       rebuild-least new h =
           let a = lent-clear A (length e) (length old) clear .0 in
-          rebuilds clear (subst (λ (x : List ℕ). LeastRow A e x) (sym (h ∙ same)) (rebuilt-least a (standing says a z))) refl
+          rebuilds clear (subst (λ (x : List ℕ). LeastRow A e x) (sym (h ∙ same)) (rebuilt-least a (standing says a z))) (says ∙ verdict-done A e w q says z)
 
 -- the first array of a length
 module _ (A n : ℕ) (old : List ℕ) (m p : ℕ) (checked : (m, p) ≡ lent A n (length old)) where

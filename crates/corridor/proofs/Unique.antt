@@ -9,7 +9,7 @@ use denote.Triple.Clauses.{AtExit}
 use Rattle.words.specs.Least.{LeastRow}
 use Rattle.words.specs.Listing.{First, Next}
 use Rattle.words.specs.Outcomes.{Rebuilds, Starts, Steps, refuses, breaks, rebuilds, starts, ends, steps}
-use Rattle.listing.proofs.Order.{least-one}
+use Rattle.words.proofs.Order.{least-one}
 use Rattle.corridor.proofs.echoes.Reads as echoes
 use Rattle.corridor.proofs.echoes.Kinds as echoes-kinds
 use Rattle.corridor.proofs.looks.Reads as looks

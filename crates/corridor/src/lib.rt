@@ -1,4 +1,5 @@
 // Claybobbin: every entry open to callers, and nothing else is open. Each takes every input and refuses what is bad by number and place.
+pub use words::Answer;
 use words::COUNT_LIMIT;
 use words::DIFFERS;
 use words::DONE;
@@ -12,13 +13,7 @@ ghost use Rattle.arrays.specs.Steps.{Holds};
 ghost use Rattle.words.specs.Strips.{closed, closing as closingOf, joint, joining as joiningOf};
 ghost use Rattle.words.specs.Outcomes.{echoes-outcome, reach-outcome, looks-outcome, sheet-outcome, guess-outcome, judge-outcome, count-outcome, Rebuilds, Starts, Steps};
 
-// A number and its place; 0 at place 0 is done.
-pub struct Answer {
-    pub number: u8,
-    pub place: usize,
-}
-
-// The same with a count, which is 0 beside every number but 0.
+// An answer with a count, which is 0 beside every number but 0.
 pub struct Counted {
     pub number: u8,
     pub place: usize,
@@ -31,16 +26,10 @@ pub fn echoes(a: usize, row: &[u8], out: &mut [u16]) -> Answer
 {
     let answer = checks::row_and_slice(a, row, out.len());
     if answer.number != DONE {
-        return Answer {
-            number: answer.number,
-            place: answer.place,
-        };
+        return answer;
     }
     rows::echoes(row, out);
-    Answer {
-        number: answer.number,
-        place: answer.place,
-    }
+    answer
 }
 
 // The looks of the row. Numbers 1, 2 and 4.
@@ -113,16 +102,10 @@ pub fn reach(a: usize, row: &[u8], out: &mut [u16]) -> Answer
 {
     let lent = checks::row_and_slice(a, row, out.len());
     if lent.number != DONE {
-        return Answer {
-            number: lent.number,
-            place: lent.place,
-        };
+        return lent;
     }
     rows::reach::reaches(row, out);
-    Answer {
-        number: lent.number,
-        place: lent.place,
-    }
+    lent
 }
 
 // Judges the array: 0, or the number and place of the first echo that does not stand. Numbers 1, 2, 5, 6 and 7.
@@ -131,18 +114,11 @@ pub fn judge(a: usize, e: &[u16]) -> Answer
 {
     let r = checks::sizes(a, LIMIT, e.len());
     if r.number != DONE {
-        return Answer {
-            number: r.number,
-            place: r.place,
-        };
+        return r;
     }
     let mut t = [0u16; 4096];
     arrays::hold(e, &mut t);
-    let v = arrays::judge(a, &t, e.len());
-    Answer {
-        number: v.number,
-        place: v.place,
-    }
+    arrays::judge(a, &t, e.len())
 }
 
 // Judges the array that the table holds and hands back the least row, where no check refuses.
@@ -151,17 +127,11 @@ fn rebuild_in(a: usize, e: &[u16], row: &mut [u8], t: &[u16; 4096]) -> Answer
     ensures { λ r. ⌜ Rebuilds a (now (e .entry)) (now (row .entry)) (r .number, r .place) (now (row .exit)) ⌝ }
 {
     let v = arrays::judge(a, t, row.len());
-    if v.number == DONE {
-        arrays::rebuild(a, t, row);
-        return Answer {
-            number: DONE,
-            place: 0,
-        };
+    if v.number != DONE {
+        return v;
     }
-    Answer {
-        number: v.number,
-        place: v.place,
-    }
+    arrays::rebuild(a, t, row);
+    v
 }
 
 // Judges the array and hands back the least row that has it, in a buffer with as many entries. Numbers 1, 2, 3, 5, 6 and 7.
@@ -170,17 +140,14 @@ pub fn rebuild(a: usize, e: &[u16], row: &mut [u8]) -> Answer
 {
     let fits = checks::lent(a, e.len(), row.len());
     if fits.number != DONE {
-        return Answer {
-            number: fits.number,
-            place: fits.place,
-        };
+        return fits;
     }
     let mut t = [0u16; 4096];
     arrays::hold(e, &mut t);
     rebuild_in(a, e, row, &t)
 }
 
-// The same with a length, which is 0 beside every number but 0.
+// An answer with a length, which is 0 beside every number but 0.
 pub struct Written {
     pub number: u8,
     pub place: usize,
@@ -213,16 +180,9 @@ pub fn guess(a: usize, hidden: &[u8], guess: &[u8]) -> Answer
 {
     let pair = checks::two_rows(a, hidden, guess);
     if pair.number != DONE {
-        return Answer {
-            number: pair.number,
-            place: pair.place,
-        };
+        return pair;
     }
-    let d = checks::named(DIFFERS, tables::difference_within(hidden, guess));
-    Answer {
-        number: d.number,
-        place: d.place,
-    }
+    checks::named(DIFFERS, tables::difference_within(hidden, guess))
 }
 
 // How many arrays of n places stand over a letters. Numbers 1 and 2, where 2 is for n over 20.
@@ -251,10 +211,7 @@ pub fn first(a: usize, n: usize, out: &mut [u16]) -> Answer
 {
     let room = checks::lent(a, n, out.len());
     if room.number != DONE {
-        return Answer {
-            number: room.number,
-            place: room.place,
-        };
+        return room;
     }
     let mut t = [0u16; 4096];
     listing::first(a, &mut t, n);
@@ -272,10 +229,7 @@ fn next_in(a: usize, e: &mut [u16], t: &mut [u16; 4096]) -> Answer
 {
     let verdict = arrays::judge(a, t, e.len());
     if verdict.number != DONE {
-        return Answer {
-            number: verdict.number,
-            place: verdict.place,
-        };
+        return verdict;
     }
     if listing::next(a, t, e.len()) {
         arrays::give(t, e);
@@ -298,10 +252,7 @@ pub fn next(a: usize, e: &mut [u16]) -> Answer
     let n = e.len();
     let r = checks::sizes(a, LIMIT, n);
     if r.number != DONE {
-        return Answer {
-            number: r.number,
-            place: r.place,
-        };
+        return r;
     }
     let mut t = [0u16; 4096];
     arrays::hold(e, &mut t);

@@ -1,8 +1,8 @@
 // What a game written in C calls: judging an array given as bytes, and counting. Each hands back its whole answer packed in 64 bits (docs/HOST.md).
 use rows::put_echo;
+use words::Answer;
 use words::DONE;
 use words::LIMIT;
-use words::Verdict;
 ghost use mathlib.Core.Path.{_≡_};
 ghost use mathlib.Core.List.{[], _∷_};
 ghost use Prim.Native.Nat.{_+_, _*_, _≤_, _<_};
@@ -31,7 +31,7 @@ fn decode(bytes: &[u8], n: usize, t: &mut [u16; 4096])
 }
 
 // 1, 2, then 3: m bytes for n echoes over a letters. No n over the limit is doubled.
-fn checked(a: usize, n: usize, m: usize) -> Verdict
+fn checked(a: usize, n: usize, m: usize) -> Answer
     ensures { λ r. ⌜ (r .number, r .place) ≡ refusal (sizes a n ∷ matching (2 * n) m ∷ []) ⌝ }
 {
     let r = checks::sizes(a, LIMIT, n);
@@ -42,7 +42,7 @@ fn checked(a: usize, n: usize, m: usize) -> Verdict
 }
 
 // An answer in 64 bits: its number in the low byte, its place above.
-fn packed(r: Verdict) -> u64
+fn packed(r: Answer) -> u64
     requires { ⌜ r .place ≤ limit ⌝ }
     ensures { λ p. ⌜ p ≡ r .number + 256 * r .place ⌝ }
 {

@@ -5,7 +5,8 @@ use mathlib.Core.List.{List, [], _∷_}
 use Prim.Native.Nat.{ℕ}
 use lib.Dec.{eqb}
 use Rattle.words.specs.Lists.{both, every, equal}
-use Rattle.lines.specs.Line.{until, past, count, lineOf, digit, numeral, value, good, meaning}
+use Rattle.words.specs.Sheet.{value}
+use Rattle.lines.specs.Line.{until, past, count, lineOf, digit, numeral, good, meaning}
 
 -- an input, and number, A and row that it means
 pub record Example : Type 0 where

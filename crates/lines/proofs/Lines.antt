@@ -2,7 +2,7 @@
 use mathlib.Core.Path.{_≡_, refl, sym, ap, _∙_}
 use mathlib.Core.Bool.{Bool, true, false}
 use mathlib.Core.List.{List, [], _∷_, _++_}
-use Prim.Native.Nat.{ℕ, suc, _+_, _-_, _*_, _≤_, _<_, min}
+use Prim.Native.Nat.{ℕ, suc, _+_, _-_, _≤_, _<_, min}
 use native.Mathlib.Omega.{arith}
 use lib.Dec.{leb, eqb}
 use lib.ListN.{length, length-append}
@@ -10,7 +10,8 @@ use borrow.Author.Tests.{eq-eqb, ne-eqb, le-leb, lt-leb, leb-true}
 use Rattle.words.specs.Lists.{both, every}
 use Rattle.words.specs.Numbers.{DONE, ALPHABET}
 use Rattle.words.proofs.Lists.{which, either, both-true, both-left, both-right, both-out}
-use Rattle.lines.specs.Line.{TAB, END, until, past, count, lineOf, digit, numeral, value, good, meaning}
+use Rattle.words.specs.Sheet.{value}
+use Rattle.lines.specs.Line.{TAB, END, until, past, count, lineOf, digit, numeral, good, meaning}
 use Rattle.lines.specs.Taking.{figures}
 
 module _ (c : ℕ) where
@@ -73,11 +74,6 @@ pub every-snoc : (p : ℕ → Bool) (l : List ℕ) (b : ℕ) → every p (l ++ (
 unfolding every both
 every-snoc p [] b = either (which (p b)) (λ t. rw t) (λ f. rw f)
 every-snoc p (x ∷ l) b = either (which (p x)) (λ t. rw t (every-snoc p l b)) (λ f. rw f)
-
-pub value-snoc : (v : ℕ) (l : List ℕ) (b : ℕ) → value v (l ++ (b ∷ [])) ≡ 10 * value v l + (b - 48)
-unfolding value
-value-snoc v [] b = refl
-value-snoc v (d ∷ l) b = value-snoc (10 * v + (d - 48)) l b
 
 -- a byte below the digits, one behind them, one of them
 pub digit-below : (b : ℕ) → b < 48 → false ≡ digit b

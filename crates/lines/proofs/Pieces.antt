@@ -10,12 +10,14 @@ use lib.ListN.{length, getD, set, take, length-append, length-set}
 use lib.Seq.{take-nil, take-all, take-append-le, take-suc, take-suc-set}
 use borrow.Author.Tests.{ltb-true, ltb-false, lt-ltb, le-ltb}
 use Rattle.words.specs.Numbers.{DONE, ALPHABET}
-use Rattle.lines.specs.Line.{TAB, END, until, past, count, lineOf, digit, value, meaning}
+use Rattle.words.specs.Sheet.{value}
+use Rattle.lines.specs.Line.{TAB, END, until, past, count, lineOf, digit, meaning}
 use Rattle.lines.specs.Taking.{figures, Shown, Stored, Taken, Ready, Starts, Counts, Grows, Stores, Takes, Means, Tells}
 use Rattle.lines.specs.declared.Figures.{Figures}
 use Rattle.lines.specs.declared.State.{State}
 use Rattle.lines.specs.declared.Line.{Line}
-use Rattle.lines.proofs.Lines.{count-more, count-one, count-other, until-met, until-here, until-snoc, past-met, past-open, value-snoc, figures-nil, figures-digit, figures-many, figures-other, numeral-yes, numeral-out, meaning-good, meaning-tabs, meaning-field}
+use Rattle.words.proofs.Decimal.{value-snoc}
+use Rattle.lines.proofs.Lines.{count-more, count-one, count-other, until-met, until-here, until-snoc, past-met, past-open, figures-nil, figures-digit, figures-many, figures-other, numeral-yes, numeral-out, meaning-good, meaning-tabs, meaning-field}
 
 -- one byte of the field
 module _ (b : ℕ) (f : Figures) where

@@ -1,11 +1,12 @@
 -- What the line that the sheet program reads means. Assumes nothing: these are definitions.
 use mathlib.Core.Bool.{Bool, cond}
 use mathlib.Core.List.{List, [], _∷_}
-use Prim.Native.Nat.{ℕ, suc, _+_, _-_, _*_}
+use Prim.Native.Nat.{ℕ, suc}
 use lib.Dec.{leb, eqb}
 use lib.ListN.{length}
 use Rattle.words.specs.Lists.{both, every}
 use Rattle.words.specs.Numbers.{DONE, ALPHABET}
+use Rattle.words.specs.Sheet.{value}
 
 abbrev pub TAB : ℕ
 TAB = 9
@@ -39,11 +40,6 @@ digit b = both (leb 48 b) (leb b 57)
 -- one or two decimal digits
 unfoldable pub numeral : List ℕ → Bool
 numeral l = both (every digit l) (both (leb 1 (length l)) (leb (length l) 2))
-
--- the number that digits stand for, behind those that stand for v
-unfoldable pub value : ℕ → List ℕ → ℕ
-value v [] = v
-value v (d ∷ l) = value (10 * v + (d - 48)) l
 
 -- exactly one tab, and before it an A of one or two decimal digits
 unfoldable pub good : List ℕ → Bool

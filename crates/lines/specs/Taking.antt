@@ -6,7 +6,8 @@ use Prim.Native.Nat.{ℕ, _+_, _*_, _<_, min}
 use lib.Dec.{ltb}
 use lib.ListN.{length, take}
 use Rattle.words.specs.Lists.{every}
-use Rattle.lines.specs.Line.{TAB, END, until, past, count, lineOf, digit, value, meaning}
+use Rattle.words.specs.Sheet.{value}
+use Rattle.lines.specs.Line.{TAB, END, until, past, count, lineOf, digit, meaning}
 use Rattle.lines.specs.declared.Figures.{Figures}
 use Rattle.lines.specs.declared.State.{State}
 use Rattle.lines.specs.declared.Line.{Line}

@@ -16,8 +16,9 @@ use Rattle.words.specs.Rows.{Small, Alike}
 use Rattle.words.specs.Numbers.{DONE, limit}
 use Rattle.words.specs.Stand.{possible, opens, weighed}
 use Rattle.words.specs.Listing.{more, values, countFrom, standing, count}
-use Rattle.words.proofs.Lists.{which, either, same?, In, there, placed-same, placed-other}
-use Rattle.words.proofs.Rows.{alike-part, alike-take, alike-sym}
+use Rattle.words.proofs.Lists.{which, either, same?, In, there}
+use Rattle.words.proofs.Places.{placed-same, placed-other}
+use Rattle.words.proofs.Rows.{alike-part, alike-take, alike-along}
 use Rattle.arrays.specs.Steps.{Passes, Possible, peak}
 use Rattle.arrays.proofs.Rules.{small-at, possible-range, possible-suc, possible-top, possible-part, possible-below, weighed-done, passes-sound, passes-part, sound-small, peak-low, peak-most}
 use Rattle.arrays.proofs.Reasons.{above}
@@ -36,10 +37,6 @@ pub peak-some : (E : ℕ → ℕ) (i r : ℕ) → r ≡ E i → (i ≡ 0 → ⊥
 unfolding peak
 peak-some E zero r e d = absurd (d refl)
 peak-some E (suc i) r e d = rw (e, add-one)
-
--- two tables that go along for n places have the same echoes there
-pub alike-along : (t u : List ℕ) (n : ℕ) → take n t ≡ take n u → Alike (at t) (at u) n
-alike-along t u n e = record { same = λ i h. alike-take t n .same i h ∙ ap (λ (x : List ℕ). at x (suc i)) e ∙ alike-sym (alike-take u n) .same i h }
 
 -- one place written
 pub placed-alike : (e : List ℕ) (i m : ℕ) → Alike (at e) (at (placed e (suc i) m)) i

@@ -9,9 +9,10 @@ use lib.Seq.{append-snoc}
 use Rattle.words.specs.Lists.{each, keep, joined, sum, run, places}
 use Rattle.words.specs.Least.{before}
 use Rattle.words.specs.Listing.{more, values, listing, countFrom}
-use Rattle.words.proofs.Lists.{which, either, same?, not-both, In, here, there, In-nil, In-cons, In-here, keep-in, keep-out, places-in, places-out}
+use Rattle.words.proofs.Lists.{which, either, same?, not-both, In, here, there, In-nil, In-cons, In-here, keep-in, keep-out}
+use Rattle.words.proofs.Places.{places-in, places-out}
 use Rattle.listing.specs.Sets.{Completes, Rising, Lists}
-use Rattle.listing.proofs.Order.{before-head, before-tail, before-self}
+use Rattle.words.proofs.Order.{before-head, before-tail, before-self}
 
 -- each number is below those behind it
 unfoldable pub Up : List ℕ → Type 0

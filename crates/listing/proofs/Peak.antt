@@ -20,9 +20,10 @@ use Rattle.arrays.proofs.Alike.{weighed-alike}
 use Rattle.arrays.proofs.Judging.{passes-none, passes-more}
 use Rattle.arrays.proofs.Theorem.{stands-passes, passes-stands}
 use Rattle.listing.specs.Sets.{Completes, Highest, Lists, Visits}
-use Rattle.listing.proofs.Order.{before-not, before-total, least-one}
+use Rattle.words.proofs.Places.{run-long}
+use Rattle.words.proofs.Order.{before-not, before-total, least-one}
 use Rattle.listing.proofs.Listing.{more-append, values-in, lists}
-use Rattle.listing.proofs.Sizes.{run-length, completes-more}
+use Rattle.listing.proofs.Sizes.{completes-more}
 use Rattle.listing.proofs.Steps.{last-steps}
 use Rattle.listing.proofs.Standing.{after-stands, first-least, head-first, behind-next, behind-last, stepping}
 use Rattle.listing.proofs.Walk.{walk-listing}
@@ -97,7 +98,7 @@ module _ (A : ℕ) (pos : 0 < A) (n : ℕ) where
       passes-suc (suc k) p (rw e (peak-stands (suc k) p))
 
   pub run-stands : StandsAt A n (run 0 n)
-  run-stands = record { stands = passes-stands pos (run 0 n) (run-passes (length (run 0 n)) (omega (arith, run-length 0 n))); long = run-length 0 n }
+  run-stands = record { stands = passes-stands pos (run 0 n) (run-passes (length (run 0 n)) (omega (arith, run-long 0 n))); long = run-long 0 n }
 
   pub run-last : (z : List ℕ) → StandsAfter A (run 0 n) z → ⊥
   unfolding at
@@ -107,7 +108,7 @@ module _ (A : ℕ) (pos : 0 < A) (n : ℕ) where
       high = record {
         most = λ z s j l b t. omega (
           arith,
-          run-getD 0 n j (omega (arith, run-length 0 n)),
+          run-getD 0 n j (omega (arith, run-long 0 n)),
           sound-small (length z) (passes-sound (stands-passes (s .is))) .below j (omega (arith, s .long)),
         );
       }

@@ -1,5 +1,5 @@
 -- How many arrays complete a prefix, over any test: never more than n! of n places, and k ^ r where every prefix has k values behind it. Assumes nothing.
-use mathlib.Core.Path.{_≡_, refl, sym, ap, _∙_}
+use mathlib.Core.Path.{_≡_, refl, sym, _∙_}
 use mathlib.Core.Bool.{Bool}
 use mathlib.Core.List.{List, [], _∷_}
 use Prim.Native.Nat.{ℕ, zero, suc, _+_, _*_, _^_, _≤_, _<_}
@@ -7,21 +7,12 @@ use native.Mathlib.Omega.{arith}
 use native.Mathlib.Nat.{suc-mul, zero-mul, one-mul, mul-one, mul-comm, pow-zero, pow-suc, le-trans, mul-le-mul-left, mul-le-mul-right}
 use lib.ListN.{length, List·getD-append}
 use lib.Seq.{take-append-le, take-at, getD-at}
-use Rattle.words.specs.Lists.{each, keep, sum, run}
+use Rattle.words.specs.Lists.{each, sum, run}
 use Rattle.words.specs.Listing.{more, values, countFrom}
-use Rattle.words.proofs.Lists.{which, either, same?, In, here, there}
+use Rattle.words.proofs.Lists.{either, same?, In, here, there, keep-few}
+use Rattle.words.proofs.Places.{run-long}
 use Rattle.listing.specs.Sets.{Completes, spans}
 use Rattle.listing.proofs.Listing.{values-out, more-length}
-
-keep-few : (p : ℕ → Bool) (l : List ℕ) → length (keep p l) ≤ length l
-unfolding keep
-keep-few p [] = omega arith
-keep-few p (x ∷ l) = either (which (p x)) (λ t. rw t (omega (arith, keep-few p l))) (λ f. rw f (omega (arith, keep-few p l)))
-
-pub run-length : (c n : ℕ) → length (run c n) ≡ n
-unfolding run
-run-length c zero = refl
-run-length c (suc n) = ap suc (run-length (suc c) n)
 
 sum-most : (f : ℕ → ℕ) (k : ℕ) (l : List ℕ) → ((m : ℕ) → f m ≤ k) → sum (each f l) ≤ length l * k
 unfolding sum each
@@ -57,7 +48,7 @@ twenty = refl
 module _ (ok : List ℕ → ℕ → Bool) where
   values-few : (p : List ℕ) → length (values ok p) ≤ suc (length p)
   unfolding values
-  values-few p = omega (arith, keep-few (ok p) (run 0 (suc (length p))), run-length 0 (suc (length p)))
+  values-few p = omega (arith, keep-few (ok p) (run 0 (suc (length p))), run-long 0 (suc (length p)))
 
   -- a prefix of i places has at most (i + 1) (i + 2) .. (i + r) completions by r: none of n places has more than n!
   pub count-most : (r : ℕ) (p : List ℕ) → countFrom ok r p ≤ spans (length p) r

@@ -6,7 +6,7 @@ use Rattle.words.specs.Stand.{Stands}
 use Rattle.words.specs.Least.{Least}
 use Rattle.words.specs.Listing.{StandsAt, StandsAfter, First, Next, head, behind}
 use Rattle.listing.specs.Sets.{Sized, After, Lists, Stepping}
-use Rattle.listing.proofs.Order.{least-alike}
+use Rattle.words.proofs.Order.{least-alike}
 use Rattle.listing.proofs.Walk.{head-least, behind-least, behind-none}
 
 module _ (A : ℕ) where

@@ -13,8 +13,9 @@ use Rattle.words.specs.Lists.{both, at, placed}
 use Rattle.words.specs.Numbers.{DONE, limit}
 use Rattle.words.specs.Stand.{Stands, weighed}
 use Rattle.words.specs.Listing.{First}
-use Rattle.words.proofs.Lists.{either, same?, both-left, both-out, placed-long, placed-same, placed-other}
-use Rattle.words.proofs.Rows.{alike-take}
+use Rattle.words.proofs.Lists.{either, same?, both-left, both-out}
+use Rattle.words.proofs.Places.{placed-long, placed-same, placed-other}
+use Rattle.words.proofs.Rows.{alike-take, alike-along}
 use Rattle.arrays.specs.Steps.{Passes, Sound, peak}
 use Rattle.arrays.proofs.Rules.{weighed-first, passes-sound, passes-part, sound-small, peak-low, peak-stands, peak-most}
 use Rattle.arrays.proofs.Alike.{weighed-alike, passes-alike}
@@ -24,7 +25,7 @@ use Rattle.listing.specs.Values.{Seeks, Lower, LeastValue, repeated, Low
 use Rattle.listing.proofs.Steps.{first-steps, last-steps, next-steps}
 use Rattle.listing.proofs.Standing.{least-first, least-next, after-stands}
 use Rattle.listing.proofs.Few.{only-peak}
-use Rattle.listing.proofs.Counting.{peak-possible, kept-none, alike-along, placed-weighed, placed-passes, take-placed}
+use Rattle.listing.proofs.Counting.{peak-possible, kept-none, placed-weighed, placed-passes, take-placed}
 use Rattle.listing.proofs.Covers.{lower-least}
 
 -- `repeats`

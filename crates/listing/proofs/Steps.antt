@@ -1,21 +1,43 @@
 -- The first, the next and the last array of ANY set P, place by place. P may have dead ends: only whole arrays of P are compared. Assumes nothing.
-use mathlib.Core.Path.{_≡_, sym, ap, subst, _∙_}
-use mathlib.Core.Bool.{false}
-use mathlib.Core.List.{List}
-use Prim.Native.Nat.{ℕ, suc, _≤_, _<_}
+use mathlib.Core.Path.{_≡_, refl, sym, ap, subst, _∙_}
+use mathlib.Core.Bool.{true, false}
+use mathlib.Core.List.{List, [], _∷_}
+use Prim.Native.Nat.{ℕ, zero, suc, _≤_, _<_}
 use native.Mathlib.Omega.{arith}
 use lib.Dec.{ltb}
 use lib.ListN.{length, take, getD}
-use lib.Seq.{getD-take, take-take}
+use lib.Seq.{take-take}
 use borrow.Author.Tests.{ltb-true, ltb-false}
+use Rattle.words.specs.Lists.{at}
 use Rattle.words.specs.Least.{before, Least}
 use Rattle.words.proofs.Lists.{which, either, same?, not-both}
+use Rattle.words.proofs.Order.{before-head, before-tail, before-out, before-nil, before-not, before-asym}
+use Rattle.words.proofs.Rows.{alike-along}
 use Rattle.listing.specs.Sets.{Parts, Sized, After, Lowest, Highest}
-use Rattle.listing.proofs.Order.{before-not, before-asym, before-parts, parts-before}
+
+-- of two arrays of one length one is before the other exactly where they part, and the less there comes first
+parts-on : {x y : List ℕ} {j : ℕ} (a b : ℕ) → a ≡ b → Parts x y j → Parts (a ∷ x) (b ∷ y) (suc j)
+parts-on a b e p = record { within = omega (arith, p .within); same = cc (p .same); less = p .less }
+
+before-parts : (x y : List ℕ) → length x ≡ length y → before x y ≡ true → (j : ℕ) × Parts x y j
+before-parts x [] l h = absurd (not-both h (before-nil x))
+before-parts [] (b ∷ y) l h = absurd (omega arith)
+before-parts (a ∷ x) (b ∷ y) l h = either (before-out a b x y h)
+    (λ m. (0, record { within = omega arith; same = refl; less = m }))
+    (λ (e, r). let (j, p) = before-parts x y (omega arith) r in (suc j, parts-on a b e p))
+
+parts-before : (j : ℕ) (x y : List ℕ) → length x ≡ length y → Parts x y j → before x y ≡ true
+parts-before j [] y l p = absurd (omega (arith, p .within))
+parts-before j (a ∷ x) [] l p = absurd (omega arith)
+parts-before zero (a ∷ x) (b ∷ y) l p = before-head a b x y (p .less)
+parts-before (suc j) (a ∷ x) (b ∷ y) l p =
+    let h : _≡_ {A = List ℕ} (a ∷ take j x) (b ∷ take j y) = p .same in
+    before-tail a b x y (cc) ∙ parts-before j x y (omega arith) (record { within = omega (arith, p .within); same = cc; less = p .less })
 
 -- two arrays that go along for n places have the same number at each of them, and go along for fewer
 alike : (n : ℕ) (x y : List ℕ) → take n x ≡ take n y → (j : ℕ) → j < n → getD x j 0 ≡ getD y j 0
-alike n x y e j h = sym (getD-take n x j 0 h) ∙ ap (λ (l : List ℕ). getD l j 0) e ∙ getD-take n y j 0 h
+unfolding at
+alike n x y e = alike-along x y n e .same
 
 along : (n : ℕ) (x y : List ℕ) → take n x ≡ take n y → (j : ℕ) → j ≤ n → take j x ≡ take j y
 along n x y e j h = sym (take-take j n x h) ∙ ap (take j) e ∙ take-take j n y h

@@ -12,7 +12,7 @@ use Rattle.words.specs.Least.{Least}
 use Rattle.words.specs.Listing.{listing, countFrom, head, behind}
 use Rattle.words.proofs.Lists.{which, either, not-both}
 use Rattle.listing.specs.Sets.{Completes, Rising, Sized, After, Lists, Trail, ends, steps, Stepping, Visits}
-use Rattle.listing.proofs.Order.{before-self, before-trans, before-asym, least-one, least-alike}
+use Rattle.words.proofs.Order.{before-self, before-trans, before-asym, least-one, least-alike}
 use Rattle.listing.proofs.Listing.{lists, listing-count}
 
 pub equal-true : (x y : List ℕ) → equal x y ≡ true → x ≡ y

@@ -9,7 +9,8 @@ use lib.ListN.{length}
 use borrow.Author.Tests.{eqb-true, eq-eqb}
 use Rattle.words.specs.Lists.{each, keep, falling, greatest, at}
 use Rattle.words.specs.Rows.{card, Small, Alike, echo, echoes, chain, reach, reaches, borders, periods, looksFrom, looks}
-use Rattle.words.proofs.Lists.{In, any-in, any-out, greatest-low, greatest-passes, greatest-most, each-place, each-only, places-length}
+use Rattle.words.proofs.Lists.{In, any-in, any-out, greatest-low, greatest-passes, greatest-most}
+use Rattle.words.proofs.Places.{each-place, each-only, places-length}
 use Rattle.words.proofs.Rows.{small-less, small-alike, alike-sym, chain-zero, chain-alike, looks-alike}
 use Rattle.rows.specs.Border.{looksOf}
 use Rattle.rows.specs.Reach.{onChain, reachOf, reachesOf, periodsAlong, periodsOf}

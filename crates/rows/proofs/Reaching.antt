@@ -11,7 +11,8 @@ use lib.ListN.{length}
 use borrow.Author.Tests.{eqb-true, eqb-false}
 use Rattle.words.specs.Lists.{at, placed}
 use Rattle.words.specs.Rows.{card, agree, echo, chain, reach, reaches}
-use Rattle.words.proofs.Lists.{either, same?, greatest-low, greatest-passes, greatest-most, In, each-only, placed-long, placed-same, placed-other}
+use Rattle.words.proofs.Lists.{either, same?, greatest-low, greatest-passes, greatest-most, In}
+use Rattle.words.proofs.Places.{each-only, placed-long, placed-same, placed-other}
 use Rattle.rows.specs.Reach.{Reaching}
 use Rattle.rows.proofs.Borders.{agree-out, agree-in, border-chain}
 

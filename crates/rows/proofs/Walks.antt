@@ -9,7 +9,8 @@ use borrow.Author.Tests.{eq-eqb, ne-eqb}
 use Rattle.words.specs.Lists.{at, placed}
 use Rattle.words.specs.Rows.{card, Small, echo, echoes, looksFrom, looksAt, looksTo, looks}
 use Rattle.words.specs.Strips.{overlap}
-use Rattle.words.proofs.Lists.{either, same?, each-place, each-only, places-length, placed-long, placed-same, placed-other}
+use Rattle.words.proofs.Lists.{either, same?}
+use Rattle.words.proofs.Places.{each-place, each-only, places-length, placed-long, placed-same, placed-other}
 use Rattle.words.proofs.Rows.{looks-zero, small-alike, alike-sym}
 use Rattle.rows.specs.Border.{Known, grown, Filling, Adding, Overlapping, resumed}
 use Rattle.rows.proofs.Borders.{echo-below, echo-one, echo-small}

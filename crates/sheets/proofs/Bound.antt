@@ -9,7 +9,8 @@ use Rattle.words.specs.Lists.{at, keep, places}
 use Rattle.words.specs.Rows.{card, Small, chain, reach, echoes, reaches, looks}
 use Rattle.words.specs.Numbers.{letters, limit}
 use Rattle.words.specs.Sheet.{Line, decimal, fields, line, text, sheet}
-use Rattle.words.proofs.Lists.{In, here, there, In-nil, In-cons, In-each-out, places-length, places-out, either}
+use Rattle.words.proofs.Lists.{In, here, there, In-nil, In-cons, In-each-out, either}
+use Rattle.words.proofs.Places.{places-length, places-out}
 use Rattle.words.proofs.Rows.{down-ind}
 use Rattle.rows.specs.Reach.{periodsAlong, periodsOf}
 use Rattle.sheets.specs.Tables.{periodsLine, tableLines}
@@ -17,7 +18,7 @@ use Rattle.rows.proofs.Looking.{looks-most}
 use Rattle.rows.proofs.Walks.{echoes-long, echoes-small}
 use Rattle.rows.proofs.Reaching.{reach-low}
 use Rattle.sheets.proofs.Outcome.{sheet-tables}
-use Rattle.sheets.proofs.Decimal.{decimal-width}
+use Rattle.words.proofs.Decimal.{decimal-width}
 use Rattle.sheets.proofs.Reading.{text-nil, text-cons}
 use Rattle.sheets.proofs.Periods.{periods-zero, periods-suc, last-low}
 

@@ -10,7 +10,7 @@ use borrow.Rule.Slice.PartMut.{midOf, putMid}
 use Rattle.words.specs.Sheet.{decimal, fields, line}
 use Rattle.sheets.specs.Writing.{Put, Begun}
 use Rattle.sheets.proofs.Parts.{part-long, put-then, begun-room, begun-more, begun-last}
-use Rattle.sheets.proofs.Decimal.{decimal-small, decimal-more, decimal-long, decimal-some, decimal-width}
+use Rattle.words.proofs.Decimal.{decimal-small, decimal-more, decimal-long, decimal-some, decimal-width}
 
 -- a number
 module _ (n : ℕ) (old : List ℕ) (room : length (decimal n) ≤ length old) where

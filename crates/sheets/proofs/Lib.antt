@@ -1,5 +1,4 @@
 -- `Decimal`, `Reading`: the text is read back in one way. `Parts`: texts put one behind the other. The others: the code's terms.
-pub mod Decimal
 pub mod Reading
 pub mod Parts
 pub mod Fields

@@ -8,7 +8,7 @@ use Rattle.words.specs.Lists.{each, joined}
 use Rattle.words.specs.Rows.{echoes}
 use Rattle.words.specs.Sheet.{Line, decimal, fields, line, text, lines, sheet}
 use Rattle.words.proofs.Lists.{In, here, there}
-use Rattle.sheets.proofs.Decimal.{decimal-digits, decimal-read}
+use Rattle.words.proofs.Decimal.{decimal-digits, decimal-read}
 
 -- digits end at the first byte that is none
 ends : (s t r q : List ℕ) (c d : ℕ) → ((b : ℕ) → In b s → 48 ≤ b) → ((b : ℕ) → In b t → 48 ≤ b) → c < 48 → d < 48 → s ++ (c ∷ r) ≡ t ++ (d ∷ q) → (s ≡ t) × (c ∷ r ≡ d ∷ q)

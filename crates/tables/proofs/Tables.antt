@@ -7,7 +7,7 @@ use lib.ListN.{length, take}
 use lib.Seq.{length-take-le}
 use Rattle.words.specs.Rows.{card, echoes, reach, reaches}
 use Rattle.words.specs.Numbers.{limit, differing}
-use Rattle.words.proofs.Lists.{places-length}
+use Rattle.words.proofs.Places.{places-length}
 use Rattle.rows.proofs.Walks.{echoes-long}
 
 -- the first n entries of a table at the limit

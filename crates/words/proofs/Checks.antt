@@ -10,36 +10,21 @@ use borrow.Author.Tests.{eq-eqb, ne-eqb, le-leb, lt-leb, lt-ltb, le-ltb, leb-tru
 use Rattle.words.specs.Lists.{both, firstOf, run, places, at}
 use Rattle.words.specs.Rows.{card}
 use Rattle.words.specs.Outcomes.{kept, given, answered, counted}
-use Rattle.words.specs.Numbers.{DONE, ALPHABET, LONG, MISMATCH, CARD, letters, firstLetter, letter, over, foreign, outside, differs, differing, named, unless, alphabet, long, matching, cards, refusal, sizes, lent, limit}
-use Rattle.words.proofs.Lists.{which, either, same?, not-both, every-in, every-out, places-in, places-out, first-places, both-out, both-true, both-left, both-right, first-start, first-here, first-more, first-none}
+use Rattle.words.specs.Numbers.{DONE, LONG, CARD, letters, firstLetter, letter, over, foreign, outside, differs, differing, named, unless, alphabet, long, matching, cards, refusal, sizes, lent, limit}
+use Rattle.words.proofs.Lists.{which, either, same?, not-both, every-in, every-out, both-out, both-true, both-left, both-right}
+use Rattle.words.proofs.Places.{places-in, places-out, first-places, first-start, first-here, first-more, first-none}
 
-pub alphabet-done : (A : ℕ) → 0 < A → A ≤ letters → (DONE, 0) ≡ alphabet A
-unfolding alphabet unless
-alphabet-done A h l = rw (both-true (leb 1 A) (leb A letters) (le-leb 1 A (omega arith)) (le-leb A letters l))
+pub unless-good : (t : Bool) (n : ℕ) → t ≡ true → (DONE, 0) ≡ unless t n
+unfolding unless
+unless-good t n h = rw h
 
-pub alphabet-none : (A : ℕ) → A ≤ 0 → (ALPHABET, 0) ≡ alphabet A
-unfolding alphabet unless
-alphabet-none A z = rw (both-left (leb 1 A) (leb A letters) (lt-leb 1 A (omega arith)))
-
-pub alphabet-over : (A m : ℕ) → m < A → letters ≤ m → (ALPHABET, 0) ≡ alphabet A
-unfolding alphabet unless
-alphabet-over A m h l = rw (both-right (leb 1 A) (leb A letters) (lt-leb A letters (omega arith)))
-
-pub long-done : (most n : ℕ) → n ≤ most → (DONE, 0) ≡ long most n
-unfolding long unless
-long-done most n h = rw (le-leb n most h)
+pub unless-not : (t : Bool) (n : ℕ) → t ≡ false → (n, 0) ≡ unless t n
+unfolding unless
+unless-not t n h = rw h
 
 pub long-over : (most n : ℕ) → most < n → (LONG, 0) ≡ long most n
-unfolding long unless
-long-over most n h = rw (lt-leb n most h)
-
-pub matching-done : (n m : ℕ) → m ≡ n → (DONE, 0) ≡ matching n m
-unfolding matching unless
-matching-done n m h = rw (eq-eqb m n h)
-
-pub matching-not : (n m : ℕ) → (m ≡ n → ⊥) → (MISMATCH, 0) ≡ matching n m
-unfolding matching unless
-matching-not n m h = rw (ne-eqb m n h)
+unfolding long
+long-over most n h = unless-not (leb n most) LONG (lt-leb n most h)
 
 pub named-none : (n p : ℕ) → p ≡ 0 → (DONE, 0) ≡ named n p
 unfolding named

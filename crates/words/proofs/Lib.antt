@@ -2,3 +2,6 @@ pub mod Corridors
 pub mod Lists
 pub mod Checks
 pub mod Rows
+pub mod Order
+pub mod Places
+pub mod Decimal

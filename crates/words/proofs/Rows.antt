@@ -9,7 +9,8 @@ use lib.ListN.{getD, take}
 use lib.Seq.{getD-take}
 use Rattle.words.specs.Lists.{at}
 use Rattle.words.specs.Rows.{card, Small, Alike, downIn, down, chain, looksFrom}
-use Rattle.words.proofs.Lists.{index-at, either, In, In-nil, In-cons, Falls}
+use Rattle.words.proofs.Lists.{either, In, In-nil, In-cons, Falls}
+use Rattle.words.proofs.Places.{index-at}
 
 -- the card of place i is the byte at index i - 1
 pub card-index : (x : List ℕ) (i : ℕ) → 0 < i → getD x (i - 1) 0 ≡ card x i
@@ -88,6 +89,10 @@ alike-take e k = record { same = λ i h. sym (getD-take k e i 0 h) }
 
 pub alike-sym : {E F : ℕ → ℕ} {n : ℕ} → Alike E F n → Alike F E n
 alike-sym a = record { same = λ i h. sym (a .same i h) }
+
+-- lists that go along for n places have the same there
+pub alike-along : (t u : List ℕ) (n : ℕ) → take n t ≡ take n u → Alike (at t) (at u) n
+alike-along t u n e = record { same = λ i h. alike-take t n .same i h ∙ ap (λ (x : List ℕ). at x (suc i)) e ∙ alike-sym (alike-take u n) .same i h }
 
 pub down-alike : {T : Type 0} {E F : ℕ → ℕ} {n : ℕ} (z : T) (s : ℕ → T → T) → Small E n → Alike E F n → (b : ℕ) → b ≤ n → down E z s b ≡ down F z s b
 down-alike {T} {E} {F} z s small a = down-ind small (λ b. down E z s b ≡ down F z s b)

@@ -1,7 +1,7 @@
 -- The sheet's text. Assumes nothing: these are definitions.
 use mathlib.Core.Bool.{cond}
 use mathlib.Core.List.{List, [], _∷_, _++_}
-use Prim.Native.Nat.{ℕ, zero, suc, _+_, _/_, _%_}
+use Prim.Native.Nat.{ℕ, zero, suc, _+_, _-_, _*_, _/_, _%_}
 use lib.Dec.{ltb}
 use lib.ListN.{length}
 use Rattle.words.specs.Lists.{each, joined}
@@ -14,6 +14,11 @@ decimalIn (suc f) n = let r = decimalIn f (n / 10) ++ ((48 + n % 10) ∷ []) in 
 
 unfoldable pub decimal : ℕ → List ℕ
 decimal n = decimalIn n n
+
+-- the number that digits stand for, behind those that stand for v
+unfoldable pub value : ℕ → List ℕ → ℕ
+value v [] = v
+value v (d ∷ l) = value (10 * v + (d - 48)) l
 
 -- a tab before each number, byte 10 at the end; an empty list has no tab
 unfoldable pub fields : List ℕ → List ℕ

@@ -33,8 +33,8 @@ pub const COUNT_LIMIT: usize = 20;
 
 pub const FIRST_LETTER: u8 = b'a';
 
-// A number and its place: 0 at place 0, or why and where something is refused.
-pub struct Verdict {
+// What comes back: a number and its place. 0 at place 0 is done; any other number says why something is refused, and the place where.
+pub struct Answer {
     pub number: u8,
     pub place: usize,
 }

@@ -1,14 +1,15 @@
 -- `long`. Assumes nothing.
 use borrow.Author.Needs.{needs}
-use Rattle.words.proofs.Checks.{long-over, long-done}
+use Rattle.words.specs.Numbers.{long}
 use Rattle.checks.proofs.long.Statement.{statement}
 use Rattle.checks.proofs.long.Tie as tie
 
-returns : tie.Need-returns
-returns c = search (needs, long-over)
+unless-requires : tie.Need-unless-requires
+unless-requires c κs = search needs
 
-returns-2 : tie.Need-returns-2
-returns-2 c = search (needs, long-done)
+returns : tie.Need-returns
+unfolding long
+returns c = search needs
 
 pub long-spec : {M : Type 1} → statement M
-long-spec = tie.close (tie.spec returns returns-2)
+long-spec = tie.close (tie.spec unless-requires returns)

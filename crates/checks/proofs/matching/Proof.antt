@@ -1,14 +1,15 @@
 -- `matching`. Assumes nothing.
 use borrow.Author.Needs.{needs}
-use Rattle.words.proofs.Checks.{matching-done, matching-not}
+use Rattle.words.specs.Numbers.{matching}
 use Rattle.checks.proofs.matching.Statement.{statement}
 use Rattle.checks.proofs.matching.Tie as tie
 
-returns : tie.Need-returns
-returns c = search (needs, matching-done)
+unless-requires : tie.Need-unless-requires
+unless-requires c κs = search needs
 
-returns-2 : tie.Need-returns-2
-returns-2 c = search (needs, matching-not)
+returns : tie.Need-returns
+unfolding matching
+returns c = search needs
 
 pub matching-spec : {M : Type 1} → statement M
-matching-spec = tie.close (tie.spec returns returns-2)
+matching-spec = tie.close (tie.spec unless-requires returns)

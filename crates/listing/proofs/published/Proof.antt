@@ -1,6 +1,6 @@
 -- `listing::published`: the table in the code is the published list. Assumes nothing.
 use borrow.Author.Needs.{needs}
-use Rattle.words.proofs.Lists.{index-at}
+use Rattle.words.proofs.Places.{index-at}
 use Rattle.listing.proofs.published.Statement.{statement}
 use Rattle.listing.proofs.published.Tie as tie
 

@@ -1,6 +1,6 @@
 -- `rows::echo_at`. Assumes nothing.
 use borrow.Author.Needs.{needs}
-use Rattle.words.proofs.Lists.{at-index}
+use Rattle.words.proofs.Places.{at-index}
 use Rattle.rows.proofs.echo_at.Statement.{statement}
 use Rattle.rows.proofs.echo_at.Tie as tie
 

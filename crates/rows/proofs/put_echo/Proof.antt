@@ -1,6 +1,6 @@
 -- `rows::put_echo`: place i is index i - 1. Assumes nothing.
 use borrow.Author.Needs.{needs}
-use Rattle.words.proofs.Lists.{set-placed}
+use Rattle.words.proofs.Places.{set-placed}
 use Rattle.rows.proofs.put_echo.Statement.{statement}
 use Rattle.rows.proofs.put_echo.Tie as tie
 

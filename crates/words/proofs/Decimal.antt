@@ -8,8 +8,8 @@ use native.Mathlib.Nat.{pow-suc}
 use lib.Dec.{ltb}
 use lib.ListN.{length, length-append}
 use borrow.Author.Tests.{lt-ltb, le-ltb, ltb-true, ltb-false}
-use Rattle.words.specs.Sheet.{decimalIn, decimal}
+use Rattle.words.specs.Sheet.{decimalIn, decimal, value}
 use Rattle.words.proofs.Lists.{which, either, In, In-nil, In-cons, here, there}
 
 fuel : (f g n : ℕ) → n ≤ f → n ≤ g → decimalIn f n ≡ decimalIn g n
 unfolding decimalIn
@@ -76,21 +76,17 @@ decimal-head = digits (λ n. (s : List ℕ) → decimal n ≡ 48 ∷ s → n ≡
     front n s h rest [] q e = omega (arith, decimal-some (n / 10), ap length q)
     front n s h rest (a ∷ d) q e = let z : a ≡ 48 = cc in omega (arith, rest d (q ∙ ap (λ (b : ℕ). b ∷ d) z))
 
--- the number that digits write
-value : ℕ → List ℕ → ℕ
-value a [] = a
-value a (d ∷ s) = value (10 * a + (d - 48)) s
-
-value-snoc : (a d : ℕ) (s : List ℕ) → value a (s ++ (d ∷ [])) ≡ 10 * value a s + (d - 48)
+-- reading back
+pub value-snoc : (v : ℕ) (l : List ℕ) (b : ℕ) → value v (l ++ (b ∷ [])) ≡ 10 * value v l + (b - 48)
 unfolding value
-value-snoc a d [] = refl
-value-snoc a d (b ∷ s) = value-snoc (10 * a + (b - 48)) d s
+value-snoc v [] b = refl
+value-snoc v (d ∷ l) b = value-snoc (10 * v + (d - 48)) l b
 
 value-decimal : (n : ℕ) → value 0 (decimal n) ≡ n
 unfolding value
 value-decimal = digits (λ n. value 0 (decimal n) ≡ n)
     (λ n h. ap (value 0) (decimal-small n h) ∙ one n)
-    (λ n h e. ap (value 0) (decimal-more n h) ∙ value-snoc 0 (48 + n % 10) (decimal (n / 10)) ∙ omega (arith, e))
+    (λ n h e. ap (value 0) (decimal-more n h) ∙ value-snoc 0 (decimal (n / 10)) (48 + n % 10) ∙ omega (arith, e))
   where
     one : (n : ℕ) → value 0 ((48 + n) ∷ []) ≡ n
     one n = omega arith

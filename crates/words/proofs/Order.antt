@@ -1,16 +1,14 @@
--- Laws of dictionary order, of the least of a set, and of the index where two arrays of one length part. Assumes nothing.
+-- Laws of dictionary order, and of the least of a set. Assumes nothing.
 use mathlib.Core.Path.{_≡_, refl, sym, _∙_}
 use mathlib.Core.Bool.{true, false}
 use mathlib.Core.Logic.{_⊎_, inl, inr}
 use mathlib.Core.List.{List, [], _∷_}
-use Prim.Native.Nat.{ℕ, zero, suc, _<_}
+use Prim.Native.Nat.{ℕ, _<_}
 use native.Mathlib.Omega.{arith}
 use lib.Dec.{eqb, ltb}
-use lib.ListN.{length, take}
 use borrow.Author.Tests.{eqb-true, eq-eqb, ne-eqb, ltb-true, ltb-false, lt-ltb}
 use Rattle.words.specs.Least.{before, Least}
 use Rattle.words.proofs.Lists.{which, either, same?, not-both}
-use Rattle.listing.specs.Sets.{Parts}
 
 pub before-head : (a b : ℕ) (x y : List ℕ) → a < b → before (a ∷ x) (b ∷ y) ≡ true
 unfolding before
@@ -69,21 +67,3 @@ least-one {P} {x} {y} p q = before-total x y (q .none x (p .is)) (p .none y (q .
 -- the least of a set said in other words
 pub least-alike : {P Q : List ℕ → Type 0} {x : List ℕ} → ((z : List ℕ) → P z → Q z) → ((z : List ℕ) → Q z → P z) → Least P x → Least Q x
 least-alike {P} {Q} {x} into out p = record { is = into x (p .is); none = λ z q. p .none z (out z q) }
-
-parts-on : {x y : List ℕ} {j : ℕ} (a b : ℕ) → a ≡ b → Parts x y j → Parts (a ∷ x) (b ∷ y) (suc j)
-parts-on a b e p = record { within = omega (arith, p .within); same = cc (p .same); less = p .less }
-
-pub before-parts : (x y : List ℕ) → length x ≡ length y → before x y ≡ true → (j : ℕ) × Parts x y j
-before-parts x [] l h = absurd (not-both h (before-nil x))
-before-parts [] (b ∷ y) l h = absurd (omega arith)
-before-parts (a ∷ x) (b ∷ y) l h = either (before-out a b x y h)
-    (λ m. (0, record { within = omega arith; same = refl; less = m }))
-    (λ (e, r). let (j, p) = before-parts x y (omega arith) r in (suc j, parts-on a b e p))
-
-pub parts-before : (j : ℕ) (x y : List ℕ) → length x ≡ length y → Parts x y j → before x y ≡ true
-parts-before j [] y l p = absurd (omega (arith, p .within))
-parts-before j (a ∷ x) [] l p = absurd (omega arith)
-parts-before zero (a ∷ x) (b ∷ y) l p = before-head a b x y (p .less)
-parts-before (suc j) (a ∷ x) (b ∷ y) l p =
-    let h : _≡_ {A = List ℕ} (a ∷ take j x) (b ∷ take j y) = p .same in
-    before-tail a b x y (cc) ∙ parts-before j x y (omega arith) (record { within = omega (arith, p .within); same = cc; less = p .less })
