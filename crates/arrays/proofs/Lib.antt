@@ -1,6 +1,8 @@
 pub mod Rules
+pub mod Sliding
 pub mod Walks
 pub mod Judging
+pub mod Passing
 pub mod Alike
 pub mod Pigeon
 pub mod Cards
@@ -10,3 +12,4 @@ pub mod Theorem
 pub mod Reasons
 pub mod Writing
 pub mod Tables
+pub mod Again

@@ -8,13 +8,13 @@ use native.Mathlib.Omega.{arith}
 use lib.Dec.{ltb, leb}
 use lib.ListN.{length, getD, take}
 use lib.Seq.{getD-append-seam, getD-take}
-use borrow.Author.Tests.{ltb-true, leb-true, eqb-true, eqb-false, not-true, not-false}
+use borrow.Author.Tests.{ltb-true, ltb-false, leb-true, eqb-true, eqb-false, not-true, not-false}
 use Rattle.words.specs.Lists.{places, at}
 use Rattle.words.specs.Rows.{card, echo, echoes, Alike}
 use Rattle.words.specs.Numbers.{DONE, firstLetter, letter, over}
 use Rattle.words.specs.Stand.{weighed, numberAt, fails, firstBad, verdict}
 use Rattle.words.specs.Least.{before}
-use Rattle.words.proofs.Lists.{either, both-out, every-in, every-out}
+use Rattle.words.proofs.Lists.{which, either, same?, both-out, every-in, every-out}
 use Rattle.words.proofs.Order.{before-head, before-tail, before-nil, before-asym}
 use Rattle.words.proofs.Places.{each-place, each-only, places-length, places-in, places-out, first-places}
 use Rattle.words.proofs.Checks.{letter-in}
@@ -103,6 +103,16 @@ verdict-passes A e v = either (judged A e) (λ p. p .1) (λ b. absurd (b .bad (s
 
 pub passes-verdict : (A : ℕ) (e : List ℕ) → Passes A (at e) (length e) → verdict A e ≡ (DONE, 0)
 passes-verdict A e p = either (judged A e) (λ q. q .0) (λ b. absurd (b .bad (p .step (b .behind) (b .within))))
+
+pub verdict-bad : (A : ℕ) (e : List ℕ) (i : ℕ) → Passes A (at e) i → i < length e → (weighed A (at e) i (at e (suc i)) ≡ DONE → ⊥)
+    → verdict A e ≡ (weighed A (at e) i (at e (suc i)), suc i)
+verdict-bad A e i p h d = either (judged A e)
+    (λ q. absurd (d (q .1 .step i h)))
+    (λ b. either (same? (b .behind) i)
+    (λ z. b .says ∙ ap (λ (k : ℕ). (weighed A (at e) k (at e (suc k)), suc k)) z)
+    (λ n. either (which (ltb i (b .behind)))
+    (λ t. absurd (d (b .passes .step i (ltb-true i (b .behind) t))))
+    (λ f. absurd (b .bad (p .step (b .behind) (omega (arith, ltb-false i (b .behind) f)))))))
 
 pub verdict-done : (A : ℕ) (e : List ℕ) (w p : ℕ) → (w, p) ≡ verdict A e → w ≡ DONE → verdict A e ≡ (DONE, 0)
 verdict-done A e w p v z = passes-verdict A e (verdict-passes A e (ap (λ (t : ℕ × ℕ). t .0) (sym v) ∙ z))

@@ -12,7 +12,7 @@ use Rattle.words.specs.Lists.{each, any, keep}
 use Rattle.words.specs.Rows.{chain, Small}
 use Rattle.words.specs.Numbers.{DONE, IMPOSSIBLE, HIDDEN, FULL}
 use Rattle.words.specs.Stand.{possible, hidden, opens, weight, weighed}
-use Rattle.words.proofs.Lists.{which, either, both-true, both-left, both-right, In, here, there, In-nil, In-cons, In-each, In-each-out, any-in, any-none, keep-in, keep-out, zero-or-more, in?, Falls, keep-same, keep-less}
+use Rattle.words.proofs.Lists.{which, either, same?, both-true, both-left, both-right, In, here, there, In-nil, In-cons, In-each, In-each-out, any-in, any-none, keep-in, keep-out, zero-or-more, in?, Falls, keep-same, keep-less}
 use Rattle.words.proofs.Rows.{down-ind, chain-zero, chain-suc}
 use Rattle.arrays.specs.Steps.{Passes, Sound, peak}
 
@@ -146,6 +146,14 @@ passes-sound {A} p = record { over = A; passes = p }
 
 pub passes-part : {A : ℕ} {E : ℕ → ℕ} {n : ℕ} (k : ℕ) → k ≤ n → Passes A E n → Passes A E k
 passes-part k l p = record { step = λ i h. p .step i (omega arith) }
+
+pub passes-none : (A : ℕ) (E : ℕ → ℕ) → Passes A E 0
+passes-none A E = record { step = λ i h. absurd (omega arith) }
+
+pub passes-suc : {A : ℕ} {E : ℕ → ℕ} (n : ℕ) → Passes A E n → weighed A E n (E (suc n)) ≡ DONE → Passes A E (suc n)
+passes-suc {A} {E} n p w = record {
+  step = λ k h. either (same? k n) (λ e. subst (λ (j : ℕ). weighed A E j (E (suc j)) ≡ DONE) (sym e) w) (λ d. p .step k (omega arith));
+}
 
 pub sound-part : {E : ℕ → ℕ} {n : ℕ} (k : ℕ) → k ≤ n → Sound E n → Sound E k
 sound-part k l s = record { over = s .over; passes = passes-part k l (s .passes) }

@@ -1,77 +1,49 @@
 -- An array in a table: its first n entries. Judging over the table, and copying into it and out of it, in the code's terms. Assumes nothing.
-use mathlib.Core.Path.{_≡_, refl, sym, ap, _∙_}
+use mathlib.Core.Path.{_≡_, sym, ap, _∙_}
 use mathlib.Core.List.{List}
 use Prim.Native.Nat.{ℕ, suc, _+_, _-_, _≤_, _<_}
 use native.Mathlib.Omega.{arith}
-use native.Mathlib.Numerals.{add-one}
 use lib.ListN.{length, take}
 use lib.Seq.{ext-getD, getD-take, length-take-le, take-all}
-use Rattle.words.specs.Lists.{firstOf, run, at, placed}
+use Rattle.words.specs.Lists.{at, placed}
 use Rattle.words.specs.Rows.{Alike}
 use Rattle.words.specs.Numbers.{DONE, limit}
-use Rattle.words.specs.Stand.{weighed, numberAt, fails, firstBad}
+use Rattle.words.specs.Stand.{weighed}
 use Rattle.words.proofs.Lists.{either, same?}
 use Rattle.words.proofs.Places.{placed-long, placed-same, placed-other}
 use Rattle.words.proofs.Rows.{alike-part, alike-take}
-use Rattle.arrays.specs.Steps.{Passes, Holds, Judges, peak}
-use Rattle.arrays.proofs.Rules.{passes-sound, passes-part, sound-small, peak-stands}
-use Rattle.arrays.proofs.Alike.{weighed-alike}
-use Rattle.arrays.proofs.Judging.{number-there, passes-none, passes-more, bad-start, bad-more, bad-here, bad-none}
-
--- the array of the first n entries has the table's echoes there
-array-alike : (t : List ℕ) (n i : ℕ) → i ≤ n → Alike (at t) (at (take n t)) i
-array-alike t n i h = alike-part i h (alike-take t n)
-
--- the first i places of the array pass, p is the greatest value behind them, and what is left answers for the whole
-pub record Judged (A : ℕ) (t : List ℕ) (n i p : ℕ) : Type 0 where
-  pub long : length (take n t) ≡ n
-  pub passes : Passes A (at t) i
-  pub top : p ≡ peak (at t) i
-  pub left : firstBad A (take n t) ≡ firstOf (fails A (at (take n t))) (run (i + 1) (length (take n t) - i))
+use Rattle.arrays.specs.Steps.{Passes, Passed, Holds, Judges}
+use Rattle.arrays.proofs.Rules.{passes-sound, passes-part, sound-small}
+use Rattle.arrays.proofs.Alike.{weighed-alike, passes-alike}
+use Rattle.arrays.proofs.Places.{passes-verdict, verdict-bad}
 
 pub judges-passes : (A : ℕ) (t : List ℕ) (n w p : ℕ) → Judges A t n w p → w ≡ DONE → Passes A (at t) n
 judges-passes A t n w p j z = j .passes z
 
-pub judged-start : (A : ℕ) (t : List ℕ) (n : ℕ) → n ≤ limit → length t ≡ limit → Judged A t n 0 0
-unfolding peak
-judged-start A t n h l = record { long = length-take-le n t (omega arith); passes = passes-none A (at t); top = refl; left = bad-start A (take n t) }
+-- the ways out of judging, where the first i places of the table pass
+module _ {A : ℕ} (t : List ℕ) {i : ℕ} (passes : Passes A (at t) i) (n : ℕ) (small : n ≤ limit) (full : length t ≡ limit) where
+  long : length (take n t) ≡ n
+  long = length-take-le n t (omega arith)
 
-module _ {A : ℕ} {t : List ℕ} {n i p : ℕ} (judging : Judged A t n i p) where
-  module _ (m w : ℕ) (there : m ≡ at t (i + 1)) (is : w ≡ weighed A (at t) i m) (inside : i < n) where
-    number : w ≡ numberAt A (at t) (i + 1)
-    number = number-there A (at t) i m w there is
+  pub judged-all : n ≤ i → Judges A t n DONE 0
+  judged-all h = let p = passes-part n h passes in record {
+    says = sym (passes-verdict A (take n t) (rw long (passes-alike (alike-take t n) p)));
+    passes = λ z. p;
+  }
 
-    number-same : w ≡ numberAt A (at (take n t)) (i + 1)
-    unfolding numberAt
-    number-same = number ∙ rw add-one (
-        weighed-alike A i (at t (suc i)) (array-alike t n i (omega arith)) (sound-small i (passes-sound (judging .passes)))
-        ∙ ap (weighed A (at (take n t)) i) (array-alike t n (suc i) (omega arith) .same i (omega arith))
-        )
+  pub judged-stuck : (w p q : ℕ) → Passed A (at t) i n w p q → (w ≡ DONE → ⊥) → Judges A t n w p
+  judged-stuck w p q s d = let (e, is) = s .stuck d in record {
+    says = rw (e, is ∙ same (omega (arith, s .further, s .within)))
+        (sym (verdict-bad A (take n t) i (passes-alike (part (omega (arith, s .further, s .within))) passes) (omega (arith, long, s .further, s .within))
+        (λ z. d (is ∙ same (omega (arith, s .further, s .within)) ∙ z))));
+    passes = λ z. absurd (d z);
+  }
+    where
+      part : i ≤ n → Alike (at t) (at (take n t)) i
+      part h = alike-part i h (alike-take t n)
 
-    top-more : m + 1 ≡ peak (at t) (i + 1)
-    unfolding peak
-    top-more = let e : m ≡ at t (suc i) = there ∙ ap (at t) (add-one i) in rw (add-one m, add-one i) (ap suc e)
-
-    pub judged-more : w ≡ DONE → Judged A t n (i + 1) (m + 1)
-    judged-more z = record {
-      long = judging .long;
-      passes = passes-more A (at t) i w number (judging .passes) z;
-      top = top-more;
-      left = bad-more A (take n t) i w number-same (judging .left) z;
-    }
-
-    pub judged-here : (w ≡ DONE → ⊥) → Judges A t n w (i + 1)
-    judged-here d = record {
-      says = bad-here A (take n t) i w number-same (judging .left) (omega (arith, judging .long)) d;
-      passes = λ z. absurd (d z);
-    }
-
-  pub judged-done : n ≤ i → Judges A t n DONE 0
-  judged-done h = record { says = bad-none A (take n t) i (judging .left) (omega (arith, judging .long)); passes = λ z. passes-part n h (judging .passes) }
-
--- the greatest value takes no walk
-pub number-top : (A : ℕ) (E : ℕ → ℕ) (i m p : ℕ) → Passes A E i → p ≡ peak E i → m ≡ p → DONE ≡ weighed A E i m
-number-top A E i m p s h e = sym (ap (weighed A E i) (e ∙ h) ∙ peak-stands i s)
+      same : i < n → weighed A (at t) i (at t (suc i)) ≡ weighed A (at (take n t)) i (at (take n t) (suc i))
+      same h = weighed-alike A i (at t (suc i)) (part (omega arith)) (sound-small i (passes-sound passes)) ∙ ap (weighed A (at (take n t)) i) (alike-take t n .same i h)
 
 -- the first i entries of t, which keeps its length k, are those of e
 pub record Copied (e t : List ℕ) (k i : ℕ) : Type 0 where

@@ -8,7 +8,7 @@ use mir.Syntax.{w64}
 use mir.Val.{Fits}
 use Rattle.words.specs.Numbers.{DONE, IMPOSSIBLE, HIDDEN}
 use Rattle.words.specs.Stand.{opens, weight}
-use Rattle.arrays.specs.Steps.{Sound}
+use Rattle.arrays.specs.Steps.{Sound, Slides}
 use Rattle.arrays.proofs.Rules.{sound-part, echo-low, walk-top, walk-over, walk-end, walk-hit, walk-on, opens-zero, opens-fresh, opens-used}
 
 module _ (E : ℕ → ℕ) (b : ℕ) (sound : Sound E (suc b)) where
@@ -42,8 +42,8 @@ module _ (E : ℕ → ℕ) (b : ℕ) (sound : Sound E (suc b)) where
   pub weigh-hit : (m x : ℕ) → x ≡ E (b + 1) → 0 < m → x ≡ m → HIDDEN ≡ weight E b m
   weigh-hit m x q p e = sym (walk-hit sound b m (omega arith) p (ap E (sym (add-one b)) ∙ sym q ∙ e))
 
-  pub weigh-on : (m x y r : ℕ) → x ≡ E (b + 1) → y ≡ E b → (b ≡ 0 → ⊥) → (b + 1 ≡ m → ⊥) → (x ≡ m → ⊥) → r ≡ weight E y m → r ≡ weight E b m
-  weigh-on m x y r q w z d e h = h ∙ rw w (sym (go b sound z d (λ k. e (q ∙ rw add-one k))))
+  pub weigh-on : (m x y r : ℕ) → x ≡ E (b + 1) → Slides E b m y → (b ≡ 0 → ⊥) → (b + 1 ≡ m → ⊥) → (x ≡ m → ⊥) → r ≡ weight E y m → r ≡ weight E b m
+  weigh-on m x y r q w z d e h = h ∙ sym (go b sound z d (λ k. e (q ∙ rw add-one k)) ∙ w .weighs)
     where
       go : (b : ℕ) → Sound E (suc b) → (b ≡ 0 → ⊥) → (b + 1 ≡ m → ⊥) → (E (suc b) ≡ m → ⊥) → weight E b m ≡ weight E (E b) m
       go zero s z d e = absurd (z refl)
@@ -75,3 +75,13 @@ module _ (E : ℕ → ℕ) (b : ℕ) (sound : Sound E (suc b)) where
 
   pub few-fits : (n y r : ℕ) → n < 2 ^ 64 → b < n → y ≡ E b → (b ≡ 0 → ⊥) → r ≤ y + 1 → Fits w64 (r + 1)
   few-fits n y r g h e d l = record { fits = omega (arith, low d) }
+
+  -- the next of a walk that slides
+  pub slid-at : (t m y : ℕ) → b ≡ t → Slides E b m y → y < t
+  slid-at t m y z w = omega (arith, w .below)
+
+  pub slid-in : (n m y : ℕ) → b < n → Slides E b m y → y < n
+  slid-in n m y h w = omega (arith, w .below)
+
+  pub slid-sound : (m y : ℕ) → Slides E b m y → Sound E (suc y)
+  slid-sound m y w = sound-part (suc y) (omega (arith, w .below)) sound

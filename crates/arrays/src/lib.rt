@@ -19,7 +19,7 @@ ghost use Rattle.words.specs.Rows.{card};
 ghost use Rattle.words.specs.Numbers.{letters, limit};
 ghost use Rattle.words.specs.Least.{leastNot, nextCard, rebuilt};
 ghost use Rattle.words.specs.Stand.{possible, opens, weight, weighed};
-ghost use Rattle.arrays.specs.Steps.{Passes, Sound, Holds, Judges, peak as peakOf};
+ghost use Rattle.arrays.specs.Steps.{Passes, Sound, Slides, Climbs, Level, Stood, Passed, Holds, Judges, peak as peakOf};
 
 // Writes the echoes into the table.
 pub fn hold(e: &[u16], t: &mut [u16; 4096])
@@ -53,6 +53,25 @@ pub fn echo(t: &[u16; 4096], i: usize) -> usize
     echo_at(t, i)
 }
 
+// A value below b on its chain from which a walk to m goes on as from the echo of b. Where all echoes of a stretch lie at the same distance below their
+// places, the chain goes down by that distance, and a long way is taken at once: the distance of a place never falls, so its two ends tell of the stretch.
+fn slide(t: &[u16; 4096], b: usize, m: usize) -> usize
+    requires { ⌜ (0 < b) × (b < limit) × (m ≤ limit) × Sound (at (now t)) (suc b) ⌝ }
+    ensures { λ r. ⌜ Slides (at (now (t .entry))) b m r ⌝ }
+{
+    let c = echo(t, b);
+    let d = b - c;
+    let end = m + 2 * d;
+    if c < end + 16 * d {
+        return c;
+    }
+    let x = end + (c - end) % d;
+    if echo(t, x) + d == x {
+        return x;
+    }
+    c
+}
+
 // The number of the value m > 0 where the echo of the place before is b: a walk along the chain.
 fn weigh(t: &[u16; 4096], b: usize, m: usize) -> u8
     requires { ⌜ (b < limit) × (0 < m) × Sound (at (now t)) (suc b) ⌝ }
@@ -67,7 +86,7 @@ fn weigh(t: &[u16; 4096], b: usize, m: usize) -> u8
     } else if echo(t, b + 1) == m {
         HIDDEN
     } else {
-        weigh(t, echo(t, b), m)
+        weigh(t, slide(t, b, m), m)
     }
 }
 
@@ -103,15 +122,144 @@ pub fn number_of(a: usize, t: &[u16; 4096], i: usize, m: usize) -> u8
     }
 }
 
-// The same where the greatest value behind those places is known. It always stands, so only what is not it takes a walk.
-fn number_below(a: usize, t: &[u16; 4096], i: usize, m: usize, peak: usize) -> u8
-    requires { ⌜ (i ≤ limit) × Passes a (at (now t)) i × (peak ≡ peakOf (at (now t)) i) ⌝ }
-    ensures { λ r. ⌜ r ≡ weighed a (at (now (t .entry))) i m ⌝ }
+// The same for a pair of small values, where a table has the pairs that stood before: what stood once behind a greatest value stands behind it again. In a
+// row drawn at random most places are such, and take neither a walk nor a branch that chance decides.
+fn number_again(
+    a: usize,
+    t: &[u16; 4096],
+    i: usize,
+    m: usize,
+    peak: usize,
+    stood: &mut [u8; 256],
+) -> u8
+    requires { ⌜ (i ≤ limit) × (peak + m < 16) × Passes a (at (now t)) i × (peak ≡ peakOf (at (now t)) i) × Stood a (at (now t)) (now stood) ⌝ }
+    ensures { λ r. ⌜ (r ≡ weighed a (at (now (t .entry))) i m) × Stood a (at (now (t .entry))) (now (stood .exit)) ⌝ }
 {
+    let k = 16 * peak + m;
+    if stood[k] == 1 {
+        return DONE;
+    }
+    let w = number_of(a, t, i, m);
+    if w == DONE {
+        stood[k] = 1;
+    }
+    w
+}
+
+// Whether the 16 places behind the first i have the echoes top, top + 1 and so on: no branch hangs on any of them alone.
+fn level(t: &[u16; 4096], i: usize, top: u16) -> bool
+    requires { ⌜ (i + 16 ≤ limit) × (top + 16 < 65536) ⌝ }
+    ensures { λ r. ⌜ Level (at (now (t .entry))) i 16 top r ⌝ }
+{
+    let mut k = 0;
+    let mut same = true;
+    while k < 16 {
+        same = same & (t[i + k] == top + (k as u16));
+        k += 1;
+    }
+    same
+}
+
+// A place up to n to which, from place i on, each echo is one more than the echo before; `peak` is one more than the echo of place i. By 16 places at once.
+fn blocks(t: &[u16; 4096], i: usize, n: usize, peak: usize) -> usize
+    requires { ⌜ (0 < i) × (i ≤ n) × (n ≤ limit) × (peak ≤ limit) × (peak ≡ at (now t) i + 1) ⌝ }
+    ensures { λ r. ⌜ (i ≤ r) × (r ≤ n) × Climbs (at (now (t .entry))) i r ⌝ }
+{
+    let mut j = i;
+    let mut top = peak;
+    while j + 16 <= n {
+        if !level(t, j, top as u16) {
+            return j;
+        }
+        j += 16;
+        top += 16;
+    }
+    j
+}
+
+// The same place by place: the last such.
+fn singly(t: &[u16; 4096], i: usize, n: usize, peak: usize) -> usize
+    requires { ⌜ (0 < i) × (i ≤ n) × (n ≤ limit) × (peak ≡ at (now t) i + 1) ⌝ }
+    ensures { λ r. ⌜ (i ≤ r) × (r ≤ n) × Climbs (at (now (t .entry))) i r ⌝ }
+{
+    let mut j = i;
+    let mut top = peak;
+    while j < n {
+        if echo(t, j + 1) != top {
+            return j;
+        }
+        j += 1;
+        top += 1;
+    }
+    j
+}
+
+// The same by blocks as far as they go, then place by place.
+fn along(t: &[u16; 4096], i: usize, n: usize, peak: usize) -> usize
+    requires { ⌜ (0 < i) × (i ≤ n) × (n ≤ limit) × (peak ≤ limit) × (peak ≡ at (now t) i + 1) ⌝ }
+    ensures { λ r. ⌜ (i ≤ r) × (r ≤ n) × Climbs (at (now (t .entry))) i r ⌝ }
+{
+    let j = blocks(t, i, n, peak);
+    singly(t, j, n, peak + (j - i))
+}
+
+// Where judging has come to. With the number DONE: `place` places stand, and `peak` is the greatest value behind them; else the value at `place` has
+// that number.
+struct Stage {
+    number: u8,
+    place: usize,
+    peak: usize,
+}
+
+// Goes on from the first i places, which stand. The greatest value always stands, so that a run of such is looked at and no more.
+fn pass(a: usize, t: &[u16; 4096], i: usize, n: usize, peak: usize, stood: &mut [u8; 256]) -> Stage
+    requires { ⌜ (i < n) × (n ≤ limit) × Passes a (at (now t)) i × (peak ≡ peakOf (at (now t)) i) × Stood a (at (now t)) (now stood) ⌝ }
+    ensures { λ r. ⌜ Passed a (at (now (t .entry))) i n (r .number) (r .place) (r .peak) × Stood a (at (now (t .entry))) (now (stood .exit)) ⌝ }
+{
+    let m = echo(t, i + 1);
+    if peak + m < 16 {
+        return Stage {
+            number: number_again(a, t, i, m, peak, stood),
+            place: i + 1,
+            peak: m + 1,
+        };
+    }
     if m == peak {
-        DONE
-    } else {
-        number_of(a, t, i, m)
+        let j = along(t, i + 1, n, m + 1);
+        return Stage {
+            number: DONE,
+            place: j,
+            peak: m + (j - i),
+        };
+    }
+    Stage {
+        number: number_of(a, t, i, m),
+        place: i + 1,
+        peak: m + 1,
+    }
+}
+
+// Number and first bad place of the array of n echoes over a letters, with a table of the pairs that stood.
+fn judge_in(a: usize, t: &[u16; 4096], n: usize, stood: &mut [u8; 256]) -> Answer
+    requires { ⌜ (n ≤ limit) × (length (now t) ≡ limit) × Stood a (at (now t)) (now stood) ⌝ }
+    ensures { λ r. ⌜ Judges a (now (t .entry)) n (r .number) (r .place) ⌝ }
+{
+    let mut i = 0;
+    let mut peak = 0;
+    while i < n {
+        let r = pass(a, t, i, n, peak, stood);
+        if r.number != DONE {
+            return Answer {
+                number: r.number,
+                place: r.place,
+            };
+        }
+        i = r.place;
+        peak = r.peak;
+    }
+    Answer {
+        number: DONE,
+        place: 0,
     }
 }
 
@@ -120,24 +268,8 @@ pub fn judge(a: usize, t: &[u16; 4096], n: usize) -> Answer
     requires { ⌜ (n ≤ limit) × (length (now t) ≡ limit) ⌝ }
     ensures { λ r. ⌜ Judges a (now (t .entry)) n (r .number) (r .place) ⌝ }
 {
-    let mut i = 0;
-    let mut peak = 0;
-    while i < n {
-        let m = echo(t, i + 1);
-        let w = number_below(a, t, i, m, peak);
-        if w != DONE {
-            return Answer {
-                number: w,
-                place: i + 1,
-            };
-        }
-        peak = m + 1;
-        i += 1;
-    }
-    Answer {
-        number: DONE,
-        place: 0,
-    }
+    let mut stood = [0u8; 256];
+    judge_in(a, t, n, &mut stood)
 }
 
 // Whether c is the card of a possible place, where the echo of the place before is b: a walk along the chain.

@@ -11,7 +11,7 @@ use borrow.Author.Tests.{eq-eqb}
 use borrow.Fn.Kinds.{PK, RK, Out, Dens, resT, endedOf}
 use contract.Lifetimes.{Lfts}
 use denote.Triple.Clauses.{AtExit}
-use Rattle.words.specs.Rows.{echoes, looks}
+use Rattle.words.specs.Rows.{echoes}
 use Rattle.words.specs.Numbers.{DONE, ROOM, unless, over, cards, refusal, rowed}
 use Rattle.words.specs.Sheet.{lines, sheet}
 use Rattle.words.specs.Outcomes.{given, kept, sheet-outcome, looks-outcome, guess-outcome}

@@ -20,13 +20,13 @@ use Rattle.words.proofs.Lists.{which, either, same?, In, there}
 use Rattle.words.proofs.Places.{placed-same, placed-other}
 use Rattle.words.proofs.Rows.{alike-part, alike-take, alike-along}
 use Rattle.arrays.specs.Steps.{Passes, Possible, peak}
-use Rattle.arrays.proofs.Rules.{small-at, possible-range, possible-suc, possible-top, possible-part, possible-below, weighed-done, passes-sound, passes-part, sound-small, peak-low, peak-most}
+use Rattle.arrays.proofs.Rules.{small-at, possible-range, possible-suc, possible-top, possible-part, possible-below, weighed-done, passes-sound, passes-part, sound-small, peak-low, peak-most, passes-suc}
 use Rattle.arrays.proofs.Reasons.{above}
 use Rattle.arrays.proofs.Alike.{weighed-alike, passes-alike, opens-alike, behind-alike}
 use Rattle.listing.specs.Values.{tried, Tries, Kept}
 use Rattle.listing.proofs.Sizes.{count-last, count-fits}
 use Rattle.listing.proofs.Few.{values-first, values-room, values-full}
-use Rattle.listing.proofs.Peak.{passes-suc, weighed-take, standing-in}
+use Rattle.listing.proofs.Peak.{weighed-take, standing-in}
 
 -- `peak_at`
 pub peak-none : (E : ℕ → ℕ) (i : ℕ) → i ≡ 0 → 0 ≡ peak E i

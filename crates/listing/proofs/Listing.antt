@@ -6,11 +6,11 @@ use Prim.Native.Nat.{ℕ, zero, suc, _+_, _≤_, _<_}
 use native.Mathlib.Omega.{arith}
 use lib.ListN.{length, take, getD, length-append}
 use lib.Seq.{append-snoc}
-use Rattle.words.specs.Lists.{each, keep, joined, sum, run, places}
+use Rattle.words.specs.Lists.{each, keep, joined, sum, run}
 use Rattle.words.specs.Least.{before}
 use Rattle.words.specs.Listing.{more, values, listing, countFrom}
-use Rattle.words.proofs.Lists.{which, either, same?, not-both, In, here, there, In-nil, In-cons, In-here, keep-in, keep-out}
-use Rattle.words.proofs.Places.{places-in, places-out}
+use Rattle.words.proofs.Lists.{which, either, not-both, In, here, there, keep-in, keep-out}
+use Rattle.words.proofs.Places.{run-in, run-out}
 use Rattle.listing.specs.Sets.{Completes, Rising, Lists}
 use Rattle.words.proofs.Order.{before-head, before-tail, before-self}
 
@@ -19,15 +19,10 @@ unfoldable pub Up : List ℕ → Type 0
 Up [] = Unit
 Up (x ∷ l) = ((m : ℕ) → In m l → x < m) × Up l
 
-run-low : (c n m : ℕ) → In m (run c n) → c ≤ m
-unfolding run
-run-low c zero m i = absurd (In-nil i)
-run-low c (suc n) m i = either (In-cons i) (λ e. omega arith) (λ j. omega (arith, run-low (suc c) n m j))
-
 run-up : (c n : ℕ) → Up (run c n)
 unfolding Up run
 run-up c zero = tt
-run-up c (suc n) = (run-low (suc c) n, run-up (suc c) n)
+run-up c (suc n) = ((λ m i. run-out (suc c) n m i .0), run-up (suc c) n)
 
 keep-up : (p : ℕ → Bool) (l : List ℕ) → Up l → Up (keep p l)
 unfolding Up keep
@@ -116,13 +111,12 @@ more-length p m = length-append p (m ∷ []) ∙ omega arith
 module _ (ok : List ℕ → ℕ → Bool) where
   -- the values behind p: at most its length, and they pass
   pub values-in : (p : List ℕ) (m : ℕ) → m ≤ length p → ok p m ≡ true → In m (values ok p)
-  unfolding values run places
-  values-in p m l h = keep-in (ok p) (either (same? m 0) (λ e. In-here e) (λ d. there (places-in (length p) m (omega arith) l))) h
+  unfolding values
+  values-in p m l h = keep-in (ok p) (run-in 0 (suc (length p)) m (omega arith) (omega arith)) h
 
   pub values-out : (p : List ℕ) (m : ℕ) → In m (values ok p) → (m ≤ length p) × (ok p m ≡ true)
-  unfolding values run places
-  values-out p m i = let (j, h) = keep-out (ok p) (run 0 (suc (length p))) m i in
-      (either (In-cons j) (λ e. omega arith) (λ k. places-out (length p) m k .1), h)
+  unfolding values
+  values-out p m i = let (j, h) = keep-out (ok p) (run 0 (suc (length p))) m i in (omega (arith, run-out 0 (suc (length p)) m j .1), h)
 
   pub values-up : (p : List ℕ) → Up (values ok p)
   unfolding values

@@ -5,32 +5,26 @@ use mathlib.Core.Bool.{true}
 use mathlib.Core.List.{List, [], _∷_, _++_, append-nil}
 use Prim.Native.Nat.{ℕ, zero, suc, _+_, _≤_, _<_}
 use native.Mathlib.Omega.{arith}
-use native.Mathlib.Numerals.{add-one}
 use lib.ListN.{length, getD, take}
 use lib.Seq.{length-take-le}
 use borrow.Author.Tests.{eqb-true, eq-eqb}
 use Rattle.words.specs.Lists.{run, at}
 use Rattle.words.specs.Numbers.{DONE}
-use Rattle.words.specs.Stand.{Stands, weighed, numberAt}
+use Rattle.words.specs.Stand.{Stands, weighed}
 use Rattle.words.specs.Listing.{more, standing, listing, count, StandsAt, StandsAfter, First, Next, head, behind}
 use Rattle.words.proofs.Rows.{alike-take}
 use Rattle.arrays.specs.Steps.{Passes, peak}
-use Rattle.arrays.proofs.Rules.{weighed-first, passes-sound, passes-part, sound-small, peak-low, peak-stands}
+use Rattle.arrays.proofs.Rules.{weighed-first, passes-sound, passes-none, passes-suc, passes-part, sound-small, peak-low, peak-stands}
 use Rattle.arrays.proofs.Alike.{weighed-alike}
-use Rattle.arrays.proofs.Judging.{passes-none, passes-more}
 use Rattle.arrays.proofs.Theorem.{stands-passes, passes-stands}
 use Rattle.listing.specs.Sets.{Completes, Highest, Lists, Visits}
-use Rattle.words.proofs.Places.{run-long}
+use Rattle.words.proofs.Places.{run-long, run-getD}
 use Rattle.words.proofs.Order.{before-not, before-total, least-one}
 use Rattle.listing.proofs.Listing.{more-append, values-in, lists}
 use Rattle.listing.proofs.Sizes.{completes-more}
 use Rattle.listing.proofs.Steps.{last-steps}
 use Rattle.listing.proofs.Standing.{after-stands, first-least, head-first, behind-next, behind-last, stepping}
 use Rattle.listing.proofs.Walk.{walk-listing}
-
-pub passes-suc : {A : ℕ} {E : ℕ → ℕ} (n : ℕ) → Passes A E n → weighed A E n (E (suc n)) ≡ DONE → Passes A E (suc n)
-unfolding numberAt
-passes-suc {A} {E} n p w = rw add-one at (passes-more A E n (weighed A E n (E (suc n))) (rw add-one) p w)
 
 -- the first i places as an array of their own: the value m weighs the same behind them
 pub weighed-take : (A : ℕ) (e : List ℕ) (i m : ℕ) → i ≤ length e → Passes A (at e) i → weighed A (at (take i e)) (length (take i e)) m ≡ weighed A (at e) i m
@@ -80,12 +74,6 @@ completed A pos (suc r) p s =
     let i = values-in (standing A) p m (peak-low (length p) h) (standing-in A p m (peak-stands (length p) h)) in
     let (c, l, t) = completed A pos r (more p m) (completes-stands A pos (more p m) (completes-more (standing A) p m (stands-completes A p s) i)) in
     (m ∷ c, ap suc l, subst (λ (q : List ℕ). Stands A q) (more-append p m c) t)
-
-run-getD : (c n j : ℕ) → j < n → getD (run c n) j 0 ≡ c + j
-unfolding run
-run-getD c zero j h = absurd (omega arith)
-run-getD c (suc n) zero h = omega arith
-run-getD c (suc n) (suc j) h = omega (arith, run-getD (suc c) n j (omega arith))
 
 -- the last array of n places, over every A: 0 1 .. n - 1
 module _ (A : ℕ) (pos : 0 < A) (n : ℕ) where

@@ -2,7 +2,7 @@
 use mathlib.Core.Path.{_≡_, refl, sym, ap, _∙_}
 use mathlib.Core.Bool.{Bool, true, false}
 use mathlib.Core.Logic.{_⊎_, inl, inr}
-use mathlib.Core.List.{List, _∷_}
+use mathlib.Core.List.{List, [], _∷_}
 use Prim.Native.Nat.{ℕ, zero, suc, _+_, _-_, _≤_, _<_}
 use native.Mathlib.Omega.{arith}
 use lib.Dec.{ltb}
@@ -21,21 +21,38 @@ index-at l (suc j) h = let z : suc j - 1 ≡ j = omega arith in ap (λ (k : ℕ)
 pub at-index : (l : List ℕ) (i r : ℕ) → 0 < i → r ≡ getD l (i - 1) 0 → r ≡ at l i
 at-index l i r h e = e ∙ index-at l i h
 
--- f of each place
+-- a run: how long it is, what stands in it, and its members
 pub run-long : (c n : ℕ) → length (run c n) ≡ n
 unfolding run
 run-long c zero = refl
 run-long c (suc n) = ap suc (run-long (suc c) n)
 
-each-run : (f : ℕ → ℕ) (c n j : ℕ) → j < n → getD (each f (run c n)) j 0 ≡ f (c + j)
-unfolding each run
-each-run f c zero j h = absurd (omega arith)
-each-run f c (suc n) zero h = let z : c ≡ c + 0 = omega arith in ap f z
-each-run f c (suc n) (suc j) h = let z : suc c + j ≡ c + suc j = omega arith in each-run f (suc c) n j (omega arith) ∙ ap f z
+pub run-getD : (c n j : ℕ) → j < n → getD (run c n) j 0 ≡ c + j
+unfolding run
+run-getD c zero j h = absurd (omega arith)
+run-getD c (suc n) zero h = omega arith
+run-getD c (suc n) (suc j) h = omega (arith, run-getD (suc c) n j (omega arith))
+
+pub run-in : (c n m : ℕ) → c ≤ m → m < c + n → In m (run c n)
+unfolding run
+run-in c zero m l h = absurd (omega arith)
+run-in c (suc n) m l h = either (same? m c) (λ e. In-here e) (λ d. there (run-in (suc c) n m (omega arith) (omega arith)))
+
+pub run-out : (c n m : ℕ) → In m (run c n) → (c ≤ m) × (m < c + n)
+unfolding run
+run-out c zero m i = absurd (In-nil i)
+run-out c (suc n) m i = either (In-cons i) (λ e. (omega arith, omega arith)) (λ j. let (a, b) = run-out (suc c) n m j in (omega arith, omega arith))
+
+-- f of each place
+each-getD : (f : ℕ → ℕ) (l : List ℕ) (j : ℕ) → j < length l → getD (each f l) j 0 ≡ f (getD l j 0)
+unfolding each
+each-getD f [] j h = absurd (omega arith)
+each-getD f (x ∷ l) zero h = refl
+each-getD f (x ∷ l) (suc j) h = each-getD f l j (omega arith)
 
 pub each-place : (f : ℕ → ℕ) (n j : ℕ) → j < n → at (each f (places n)) (suc j) ≡ f (suc j)
 unfolding at places
-each-place f n j h = let z : 1 + j ≡ suc j = omega arith in each-run f 1 n j h ∙ ap f z
+each-place f n j h = let z : getD (run 1 n) j 0 ≡ suc j = omega (arith, run-getD 1 n j h) in each-getD f (run 1 n) j (omega (arith, run-long 1 n)) ∙ ap f z
 
 pub places-length : (f : ℕ → ℕ) (n : ℕ) → length (each f (places n)) ≡ n
 unfolding places
@@ -47,16 +64,6 @@ unfolding at
 each-only f n l h same = ext-getD 0 l (each f (places n)) (h ∙ sym (places-length f n)) (λ j k. same j (omega arith) ∙ sym (each-place f n j (omega arith)))
 
 -- the places of n are 1 to n
-run-in : (c n m : ℕ) → c ≤ m → m < c + n → In m (run c n)
-unfolding run
-run-in c zero m l h = absurd (omega arith)
-run-in c (suc n) m l h = either (same? m c) (λ e. In-here e) (λ d. there (run-in (suc c) n m (omega arith) (omega arith)))
-
-run-out : (c n m : ℕ) → In m (run c n) → (c ≤ m) × (m < c + n)
-unfolding run
-run-out c zero m i = absurd (In-nil i)
-run-out c (suc n) m i = either (In-cons i) (λ e. (omega arith, omega arith)) (λ j. let (a, b) = run-out (suc c) n m j in (omega arith, omega arith))
-
 pub places-in : (n m : ℕ) → 0 < m → m ≤ n → In m (places n)
 unfolding places
 places-in n m h l = run-in 1 n m h (omega arith)
