@@ -186,14 +186,21 @@ fn kinds(n: usize) -> Vec<Kind> {
     ]
 }
 
-// The array broken at its last place, once for each number that can come there: by the least such value, whose walk is the longest.
+// The array broken at its last place, once for each number that can come there: by the least such value, whose walk is the longest. Tried are zero, the
+// least value that is not possible, and the possible ones from the least on.
 fn breaks(k: &Kind) -> Vec<Vec<u16>> {
     let n = k.echoes.len() - 1;
+    let mut possible = vec![k.echoes[n - 1] + 1];
+    while possible[possible.len() - 1] > 1 {
+        possible.push(k.echoes[possible[possible.len() - 1] as usize - 1] + 1);
+    }
+    possible.reverse();
+    let other = (1..).find(|m| possible.binary_search(m).is_err());
     let mut numbers = Vec::new();
     let mut found = Vec::new();
-    for m in 0..=n {
+    for m in [0].into_iter().chain(other).chain(possible) {
         let mut y = k.echoes.clone();
-        y[n] = m as u16;
+        y[n] = m;
         let number = judge(k.letters, &encode(&y)) & 255;
         if number != 0 && !numbers.contains(&number) {
             numbers.push(number);

@@ -35,7 +35,8 @@ for name in "$@"; do
     if [ -e "host/$name.c" ]; then
         "$cc" -std=c89 -O2 -static -Iinclude -o "$program" "host/$name.c" "$archive"
     else
-        "$rustc" -O -C panic=abort --edition 2021 --crate-type staticlib --target x86_64-unknown-linux-gnu -o "$out/lib$name.a" "host/$name.rs"
+        # jumps are kept off the 32-byte lines: on some processors one that crosses a line is slow, and a benchmark would measure where they happen to lie
+        "$rustc" -O -C panic=abort -C llvm-args=-x86-branches-within-32B-boundaries --edition 2021 --crate-type staticlib --target x86_64-unknown-linux-gnu -o "$out/lib$name.a" "host/$name.rs"
         # a static program warns of what it would load to look up a host's name, which none of these does
         quietly "$cc" -static -o "$program" "$out/lib$name.a" "$archive"
     fi
