@@ -186,8 +186,8 @@ fn kinds(n: usize) -> Vec<Kind> {
     ]
 }
 
-// The array broken at its last place, once for each number that can come there: by the least such value, whose walk is the longest. Tried are zero, the
-// least value that is not possible, and the possible ones from the least on.
+// The array broken at its last place, once for each number that can come there, by the least value that has it, whose walk is the longest: zero (7), the
+// least value that is not possible (5), the least possible one that is hidden (6).
 fn breaks(k: &Kind) -> Vec<Vec<u16>> {
     let n = k.echoes.len() - 1;
     let mut possible = vec![k.echoes[n - 1] + 1];
@@ -195,19 +195,15 @@ fn breaks(k: &Kind) -> Vec<Vec<u16>> {
         possible.push(k.echoes[possible[possible.len() - 1] as usize - 1] + 1);
     }
     possible.reverse();
+    let mut bytes = encode(&k.echoes);
+    let mut number = |m: u16| {
+        bytes[2 * n - 2..].copy_from_slice(&m.to_le_bytes());
+        judge(k.letters, &bytes) & 255
+    };
     let other = (1..).find(|m| possible.binary_search(m).is_err());
-    let mut numbers = Vec::new();
-    let mut found = Vec::new();
-    for m in [0].into_iter().chain(other).chain(possible) {
-        let mut y = k.echoes.clone();
-        y[n] = m;
-        let number = judge(k.letters, &encode(&y)) & 255;
-        if number != 0 && !numbers.contains(&number) {
-            numbers.push(number);
-            found.push(y);
-        }
-    }
-    found
+    let hidden = possible.into_iter().find(|&m| number(m) == 6);
+    let broken = [Some(0), other, hidden].into_iter().flatten().filter(|&m| number(m) != 0);
+    broken.map(|m| [&k.echoes[..n], &[m]].concat()).collect()
 }
 
 // The value, of which the compiler knows nothing: no call is done once for many.
