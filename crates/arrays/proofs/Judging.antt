@@ -6,7 +6,7 @@ use lib.ListN.{length}
 use Rattle.words.specs.Numbers.{DONE, IMPOSSIBLE, FULL}
 use Rattle.words.specs.Stand.{opens, weight, weighed}
 use Rattle.arrays.specs.Steps.{Passes, Sound}
-use Rattle.arrays.proofs.Rules.{passes-sound, sound-part, sound-small, weighed-first, weighed-second, weighed-more, weighed-fits, weighed-full}
+use Rattle.arrays.proofs.Rules.{passes-sound, sound-part, echo-below, weighed-first, weighed-second, weighed-more, weighed-fits, weighed-full}
 
 -- the value m behind the first i places
 module _ (A : ℕ) (E : ℕ → ℕ) (i m : ℕ) where
@@ -40,11 +40,7 @@ module _ (A : ℕ) (E : ℕ → ℕ) (i m : ℕ) where
 -- behind the first i places, which pass
 module _ (A : ℕ) (E : ℕ → ℕ) (i b : ℕ) (passes : Passes A E i) (is : b ≡ E i) (later : i ≡ 0 → ⊥) where
   behind-low : b < i
-  behind-low = go i passes is later
-    where
-      go : (i : ℕ) → Passes A E i → b ≡ E i → (i ≡ 0 → ⊥) → b < i
-      go zero p e d = absurd (d refl)
-      go (suc i) p e d = omega (arith, sound-small (suc i) (passes-sound p) .below i (omega arith))
+  behind-low = omega (arith, echo-below (passes-sound passes) i (omega arith) (omega arith))
 
   pub behind-in : (n : ℕ) → i ≤ n → b < n
   behind-in n h = omega (arith, behind-low)

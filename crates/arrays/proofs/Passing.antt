@@ -15,7 +15,7 @@ use Rattle.words.specs.Numbers.{DONE, limit}
 use Rattle.words.specs.Stand.{weighed}
 use Rattle.words.proofs.Lists.{which, either, same?, both-out}
 use Rattle.arrays.specs.Steps.{Passes, Climbs, Level, Passed, peak}
-use Rattle.arrays.proofs.Rules.{passes-suc, peak-low, peak-stands}
+use Rattle.arrays.proofs.Rules.{passes-suc, peak-some, peak-low, peak-stands}
 
 -- the echoes of some places behind the first i, looked at together
 pub level-none : (E : ℕ → ℕ) (i top : ℕ) → Level E i 0 top true
@@ -93,11 +93,6 @@ climbs-passes {A} {E} {i} s pos p (suc (suc j)) l h = either (same? i (suc (suc 
     (λ e. rw (← e) p)
     (λ d. peak-passes (suc j) (climbs-passes s pos p (suc j) (omega arith) (omega arith)) (s .more (suc j) (omega arith) (omega arith)))
 
-peak-after : (E : ℕ → ℕ) (p q : ℕ) → 0 < p → q ≡ E p + 1 → q ≡ peak E p
-unfolding peak
-peak-after E zero q h e = absurd (omega arith)
-peak-after E (suc p) q h e = omega arith
-
 module _ {A : ℕ} {E : ℕ → ℕ} {i : ℕ} (passes : Passes A E i) where
   pub passing-fits : (n p m : ℕ) → p ≡ peak E i → i < n → n ≤ limit → m < 65536 → Fits w64 (p + m)
   passing-fits n p m e g h l = record { fits = omega (arith, peak-low i passes) }
@@ -110,7 +105,7 @@ module _ {A : ℕ} {E : ℕ → ℕ} {i : ℕ} (passes : Passes A E i) where
   passed-one n m w e h is = record {
     further = omega arith;
     within = omega arith;
-    top = peak-after E (i + 1) (m + 1) (omega arith) (omega arith);
+    top = peak-some E (i + 1) m e (λ z. omega arith);
     passes = λ z. rw add-one (passes-suc i passes (sym same ∙ z));
     stuck = λ d. (add-one i, same);
   }
@@ -122,15 +117,11 @@ module _ {A : ℕ} {E : ℕ → ℕ} {i : ℕ} (passes : Passes A E i) where
   passed-run n m p r e top z l h s = record {
     further = omega arith;
     within = h;
-    top = let y : i + 1 + (r - (i + 1)) ≡ r = omega arith in
-        peak-after E r (m + (r - i)) (omega arith) (omega (arith, ap E y, climbs-high s (r - (i + 1)) (omega arith)));
+    top = let y : i + 1 + (r - (i + 1)) ≡ r = omega arith in let k : m + (r - i) ≡ E r + 1 = omega (arith, ap E y, climbs-high s (r - (i + 1)) (omega arith)) in
+        k ∙ peak-some E r (E r) refl (λ z. omega arith);
     passes = λ y. climbs-passes s (omega arith) (rw add-one (peak-passes i passes (ap E (sym (add-one i)) ∙ sym e ∙ z ∙ top))) r l (omega arith);
     stuck = λ d. absurd (d refl);
   }
 
 pub passed-passes : {A : ℕ} {E : ℕ → ℕ} {i n w p q : ℕ} → Passed A E i n w p q → w ≡ DONE → Passes A E p
 passed-passes s z = s .passes z
-
-pub peak-none : (E : ℕ → ℕ) → 0 ≡ peak E 0
-unfolding peak
-peak-none E = refl

@@ -3,8 +3,9 @@ use mathlib.Core.Path.{_≡_, refl, sym, ap, subst, _∙_}
 use mathlib.Core.Bool.{true, false, not}
 use mathlib.Core.Logic.{_⊎_, inl, inr}
 use mathlib.Core.List.{List, [], _∷_}
-use Prim.Native.Nat.{ℕ, zero, suc, _≤_, _<_}
+use Prim.Native.Nat.{ℕ, zero, suc, _+_, _≤_, _<_}
 use native.Mathlib.Omega.{arith}
+use native.Mathlib.Numerals.{add-one}
 use lib.Dec.{ltb, eqb}
 use lib.ListN.{length}
 use borrow.Author.Tests.{ltb-true, ltb-false, lt-ltb, le-ltb, eq-eqb, ne-eqb, not-true}
@@ -182,6 +183,10 @@ module _ {E : ℕ → ℕ} {n : ℕ} (sound : Sound E n) where
   pub echo-low : (b : ℕ) → b < n → E (suc b) ≤ b
   echo-low b h = small .below b h
 
+  pub echo-below : (b : ℕ) → 0 < b → b ≤ n → E b < b
+  echo-below zero p h = absurd (omega arith)
+  echo-below (suc b) p h = omega (arith, echo-low b h)
+
   -- the greatest possible value is not hidden
   pub top-open : (b : ℕ) → b ≤ n → hidden E b (suc b) ≡ false
   unfolding hidden
@@ -276,7 +281,17 @@ opens-at-most {A} {E} {n} pos passes b h = down-ind (sound-small n s) (λ b. b <
 top-stands : (A : ℕ) {E : ℕ → ℕ} {n : ℕ} → Sound E (suc n) → weighed A E (suc n) (suc (E (suc n))) ≡ DONE
 top-stands A {E} {n} s = weighed-more A E n _ (omega arith) ∙ walk-top s (E (suc n)) _ (omega (arith, echo-low s n (omega arith))) refl
 
--- the greatest value stands, and what stands is not above it
+-- the greatest value at the first place, and behind it
+pub peak-none : (E : ℕ → ℕ) (i : ℕ) → i ≡ 0 → 0 ≡ peak E i
+unfolding peak
+peak-none E i z = rw z
+
+pub peak-some : (E : ℕ → ℕ) (i r : ℕ) → r ≡ E i → (i ≡ 0 → ⊥) → r + 1 ≡ peak E i
+unfolding peak
+peak-some E zero r e d = absurd (d refl)
+peak-some E (suc i) r e d = rw (e, add-one)
+
+-- it stands, and what stands is not above it
 module _ {A : ℕ} {E : ℕ → ℕ} where
   pub peak-low : (n : ℕ) → Passes A E n → peak E n ≤ n
   unfolding peak

@@ -9,7 +9,7 @@ use Rattle.words.specs.Numbers.{limit}
 use Rattle.words.specs.Stand.{weight}
 use Rattle.words.proofs.Lists.{either, same?}
 use Rattle.arrays.specs.Steps.{Sound, Slides, peak}
-use Rattle.arrays.proofs.Rules.{passes-part, peak-most, echo-low, walk-on}
+use Rattle.arrays.proofs.Rules.{passes-part, peak-most, echo-below, walk-on}
 
 -- an echo is at most one more than the echo before
 rise : {E : ℕ → ℕ} {n : ℕ} → Sound E n → (k : ℕ) → suc k < n → E (suc (suc k)) ≤ suc (E (suc k))
@@ -44,11 +44,7 @@ module _ {E : ℕ → ℕ} {b : ℕ} (sound : Sound E (suc b)) (x d : ℕ) (pos 
 -- the ways out of `slide`
 module _ {E : ℕ → ℕ} {b : ℕ} (sound : Sound E (suc b)) (pos : 0 < b) where
   next-low : E b < b
-  next-low = go b sound pos
-    where
-      go : (b : ℕ) → Sound E (suc b) → 0 < b → E b < b
-      go zero s p = absurd (omega arith)
-      go (suc b) s p = omega (arith, echo-low s b (omega arith))
+  next-low = echo-below sound b pos (omega arith)
 
   pub slide-less : (c : ℕ) → c ≡ E b → c ≤ b
   slide-less c e = omega (arith, next-low)

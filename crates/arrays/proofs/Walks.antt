@@ -9,16 +9,12 @@ use mir.Val.{Fits}
 use Rattle.words.specs.Numbers.{DONE, IMPOSSIBLE, HIDDEN}
 use Rattle.words.specs.Stand.{opens, weight}
 use Rattle.arrays.specs.Steps.{Sound, Slides}
-use Rattle.arrays.proofs.Rules.{sound-part, echo-low, walk-top, walk-over, walk-end, walk-hit, walk-on, opens-zero, opens-fresh, opens-used}
+use Rattle.arrays.proofs.Rules.{sound-part, echo-below, walk-top, walk-over, walk-end, walk-hit, walk-on, opens-zero, opens-fresh, opens-used}
 
 module _ (E : ℕ → ℕ) (b : ℕ) (sound : Sound E (suc b)) where
   -- the next echo of a walk
   low : (b ≡ 0 → ⊥) → E b < b
-  low d = go b sound d
-    where
-      go : (b : ℕ) → Sound E (suc b) → (b ≡ 0 → ⊥) → E b < b
-      go zero s d = absurd (d refl)
-      go (suc b) s d = omega (arith, echo-low s b (omega arith))
+  low d = echo-below sound b (omega arith) (omega arith)
 
   pub next-at : (t y : ℕ) → b ≡ t → y ≡ E b → (b ≡ 0 → ⊥) → y < t
   next-at t y z e d = omega (arith, low d)

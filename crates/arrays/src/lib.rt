@@ -162,7 +162,7 @@ fn level(t: &[u16; 4096], i: usize, top: u16) -> bool
 
 // A place up to n to which, from place i on, each echo is one more than the echo before; `peak` is one more than the echo of place i. By 16 places at once.
 fn blocks(t: &[u16; 4096], i: usize, n: usize, peak: usize) -> usize
-    requires { ⌜ (0 < i) × (i ≤ n) × (n ≤ limit) × (peak ≤ limit) × (peak ≡ at (now t) i + 1) ⌝ }
+    requires { ⌜ (i ≤ n) × (n ≤ limit) × (peak ≤ limit) × (peak ≡ at (now t) i + 1) ⌝ }
     ensures { λ r. ⌜ (i ≤ r) × (r ≤ n) × Climbs (at (now (t .entry))) i r ⌝ }
 {
     let mut j = i;
@@ -179,7 +179,7 @@ fn blocks(t: &[u16; 4096], i: usize, n: usize, peak: usize) -> usize
 
 // The same place by place: the last such.
 fn singly(t: &[u16; 4096], i: usize, n: usize, peak: usize) -> usize
-    requires { ⌜ (0 < i) × (i ≤ n) × (n ≤ limit) × (peak ≡ at (now t) i + 1) ⌝ }
+    requires { ⌜ (i ≤ n) × (n ≤ limit) × (peak ≡ at (now t) i + 1) ⌝ }
     ensures { λ r. ⌜ (i ≤ r) × (r ≤ n) × Climbs (at (now (t .entry))) i r ⌝ }
 {
     let mut j = i;
@@ -196,7 +196,7 @@ fn singly(t: &[u16; 4096], i: usize, n: usize, peak: usize) -> usize
 
 // The same by blocks as far as they go, then place by place.
 fn along(t: &[u16; 4096], i: usize, n: usize, peak: usize) -> usize
-    requires { ⌜ (0 < i) × (i ≤ n) × (n ≤ limit) × (peak ≤ limit) × (peak ≡ at (now t) i + 1) ⌝ }
+    requires { ⌜ (i ≤ n) × (n ≤ limit) × (peak ≤ limit) × (peak ≡ at (now t) i + 1) ⌝ }
     ensures { λ r. ⌜ (i ≤ r) × (r ≤ n) × Climbs (at (now (t .entry))) i r ⌝ }
 {
     let j = blocks(t, i, n, peak);

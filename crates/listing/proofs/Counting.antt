@@ -28,16 +28,6 @@ use Rattle.listing.proofs.Sizes.{count-last, count-fits}
 use Rattle.listing.proofs.Few.{values-first, values-room, values-full}
 use Rattle.listing.proofs.Peak.{weighed-take, standing-in}
 
--- `peak_at`
-pub peak-none : (E : ℕ → ℕ) (i : ℕ) → i ≡ 0 → 0 ≡ peak E i
-unfolding peak
-peak-none E i z = rw z
-
-pub peak-some : (E : ℕ → ℕ) (i r : ℕ) → r ≡ E i → (i ≡ 0 → ⊥) → r + 1 ≡ peak E i
-unfolding peak
-peak-some E zero r e d = absurd (d refl)
-peak-some E (suc i) r e d = rw (e, add-one)
-
 -- one place written
 pub placed-alike : (e : List ℕ) (i m : ℕ) → Alike (at e) (at (placed e (suc i) m)) i
 placed-alike e i m = record { same = λ k h. sym (placed-other e (suc i) m (suc k) (λ z. omega arith)) }

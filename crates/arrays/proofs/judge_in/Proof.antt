@@ -4,8 +4,8 @@ use mathlib.Core.Path.{_≡_}
 use Prim.Native.Nat.{_-_}
 use Rattle.words.specs.Lists.{at}
 use Rattle.arrays.specs.Steps.{Passes, Stood, peak as peakOf}
-use Rattle.arrays.proofs.Rules.{passes-none}
-use Rattle.arrays.proofs.Passing.{passed-passes, peak-none}
+use Rattle.arrays.proofs.Rules.{passes-none, peak-none}
+use Rattle.arrays.proofs.Passing.{passed-passes}
 use Rattle.arrays.proofs.Tables.{judged-all, judged-stuck}
 use Rattle.arrays.proofs.judge_in.Statement.{statement}
 use Rattle.arrays.proofs.judge_in.Tie as tie

@@ -1,6 +1,6 @@
--- `peak_at`: one lemma of `Counting` for each way out. Assumes nothing.
+-- `peak_at`: one law of the peak for each way out. Assumes nothing.
 use borrow.Author.Needs.{needs}
-use Rattle.listing.proofs.Counting.{peak-none, peak-some}
+use Rattle.arrays.proofs.Rules.{peak-none, peak-some}
 use Rattle.listing.proofs.peak_at.Statement.{statement}
 use Rattle.listing.proofs.peak_at.Tie as tie
 
