@@ -1,8 +1,7 @@
 pub mod Rules
 pub mod Sliding
 pub mod Walks
-pub mod Judging
-pub mod Passing
+pub mod Behind
 pub mod Alike
 pub mod Pigeon
 pub mod Cards
@@ -10,6 +9,4 @@ pub mod Growth
 pub mod Places
 pub mod Theorem
 pub mod Reasons
-pub mod Writing
 pub mod Tables
-pub mod Again

@@ -1,4 +1,3 @@
 pub mod Entries
-pub mod Stepping
 pub mod Unique
 pub mod Secrecy

@@ -3,14 +3,9 @@ pub use words::Answer;
 use words::COUNT_LIMIT;
 use words::DIFFERS;
 use words::DONE;
-use words::LAST;
 use words::LIMIT;
 ghost use mathlib.Core.Path.{_≡_};
-ghost use Prim.Native.Nat.{_≤_};
-ghost use lib.ListN.{length};
-ghost use Rattle.words.specs.Numbers.{limit, lent, sizes, DONE as done};
-ghost use Rattle.arrays.specs.Steps.{Holds};
-ghost use Rattle.words.specs.Strips.{closed, closing as closingOf, joint, joining as joiningOf};
+ghost use Rattle.words.specs.Strips.{closing as closingOf, joining as joiningOf};
 ghost use Rattle.words.specs.Outcomes.{echoes-outcome, reach-outcome, looks-outcome, sheet-outcome, guess-outcome, judge-outcome, count-outcome, Rebuilds, Starts, Steps};
 
 // An answer with a count, which is 0 beside every number but 0.
@@ -52,47 +47,19 @@ pub fn looks(a: usize, row: &[u8]) -> Counted
     }
 }
 
-// The length of the closing strip.
-fn closing_length(row: &[u8]) -> usize
-    ensures { λ r. ⌜ (r ≡ closed (now (row .entry))) × (r ≤ length (now (row .entry))) ⌝ }
-{
-    if row.len() == 0 {
-        0
-    } else if LIMIT < row.len() {
-        0
-    } else {
-        tables::last_within(row)
-    }
-}
-
 // The closing strip: the part of the row made of its last e[n] cards. All bytes are cards here.
 pub fn closing(row: &[u8]) -> &[u8]
     ensures { λ r. ⌜ now r ≡ closingOf (now (row .entry)) ⌝ }
 {
-    let from = row.len() - closing_length(row);
+    let from = row.len() - tables::closing_length(row);
     &row[from..]
-}
-
-// The length of the joining strip.
-fn joining_length(left: &[u8], right: &[u8]) -> usize
-    ensures { λ r. ⌜ (r ≡ joint (now (left .entry)) (now (right .entry))) × (r ≤ length (now (left .entry))) × (r ≤ length (now (right .entry))) ⌝ }
-{
-    if right.len() == 0 {
-        0
-    } else if LIMIT < right.len() {
-        0
-    } else if LIMIT < left.len() {
-        0
-    } else {
-        tables::overlap_within(left, right)
-    }
 }
 
 // The joining strip: the first cards of the right row that the left row's end equals. All bytes are cards here.
 pub fn joining<'l, 'r>(left: &'l [u8], right: &'r [u8]) -> &'r [u8]
     ensures { λ r. ⌜ now r ≡ joiningOf (now (left .entry)) (now (right .entry)) ⌝ }
 {
-    let k = joining_length(left, right);
+    let k = tables::joining_length(left, right);
     &right[..k]
 }
 
@@ -116,22 +83,7 @@ pub fn judge(a: usize, e: &[u16]) -> Answer
     if r.number != DONE {
         return r;
     }
-    let mut t = [0u16; 4096];
-    arrays::hold(e, &mut t);
-    arrays::judge(a, &t, e.len())
-}
-
-// Judges the array that the table holds and hands back the least row, where no check refuses.
-fn rebuild_in(a: usize, e: &[u16], row: &mut [u8], t: &[u16; 4096]) -> Answer
-    requires { ⌜ (lent a (length (now e)) (length (now row)) .0 ≡ done) × Holds (now t) (now e) × (length (now t) ≡ limit) ⌝ }
-    ensures { λ r. ⌜ Rebuilds a (now (e .entry)) (now (row .entry)) (r .number, r .place) (now (row .exit)) ⌝ }
-{
-    let v = arrays::judge(a, t, row.len());
-    if v.number != DONE {
-        return v;
-    }
-    arrays::rebuild(a, t, row);
-    v
+    held::judge(a, e)
 }
 
 // Judges the array and hands back the least row that has it, in a buffer with as many entries. Numbers 1, 2, 3, 5, 6 and 7.
@@ -142,9 +94,7 @@ pub fn rebuild(a: usize, e: &[u16], row: &mut [u8]) -> Answer
     if fits.number != DONE {
         return fits;
     }
-    let mut t = [0u16; 4096];
-    arrays::hold(e, &mut t);
-    rebuild_in(a, e, row, &t)
+    held::rebuild(a, e, row)
 }
 
 // An answer with a length, which is 0 beside every number but 0.
@@ -213,35 +163,10 @@ pub fn first(a: usize, n: usize, out: &mut [u16]) -> Answer
     if room.number != DONE {
         return room;
     }
-    let mut t = [0u16; 4096];
-    listing::first(a, &mut t, n);
-    arrays::give(&t, out);
+    held::first(a, n, out);
     Answer {
         number: DONE,
         place: 0,
-    }
-}
-
-// Steps from the array, which the table holds, where no check refuses.
-fn next_in(a: usize, e: &mut [u16], t: &mut [u16; 4096]) -> Answer
-    requires { ⌜ (sizes a (length (now e)) .0 ≡ done) × Holds (now t) (now e) × (length (now t) ≡ limit) ⌝ }
-    ensures { λ r. ⌜ Steps a (now (e .entry)) (r .number, r .place) (now (e .exit)) ⌝ }
-{
-    let verdict = arrays::judge(a, t, e.len());
-    if verdict.number != DONE {
-        return verdict;
-    }
-    if listing::next(a, t, e.len()) {
-        arrays::give(t, e);
-        Answer {
-            number: DONE,
-            place: 0,
-        }
-    } else {
-        Answer {
-            number: LAST,
-            place: 0,
-        }
     }
 }
 
@@ -254,7 +179,5 @@ pub fn next(a: usize, e: &mut [u16]) -> Answer
     if r.number != DONE {
         return r;
     }
-    let mut t = [0u16; 4096];
-    arrays::hold(e, &mut t);
-    next_in(a, e, &mut t)
+    held::next(a, e)
 }

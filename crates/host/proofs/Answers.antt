@@ -12,7 +12,8 @@ use Rattle.words.specs.Stand.{verdict}
 use Rattle.words.specs.Outcomes.{decoded, judge-answer, host-judge-outcome}
 use Rattle.words.proofs.Lists.{either, same?}
 use Rattle.words.proofs.Checks.{refusal-stop, refusal-last, refusal-clear, sizes-clear, matching-clear}
-use Rattle.arrays.specs.Steps.{Holds, Judges}
+use Rattle.arrays.specs.Steps.{Holds}
+use Rattle.judging.specs.Judging.{Judges}
 use Rattle.host.proofs.Decoding.{decoded-long}
 use Rattle.host.proofs.Packing.{judge-bounds}
 

@@ -60,7 +60,7 @@ pub extern "C" fn claybobbin_judge(a: usize, n: usize, bytes: &[u8]) -> u64
     }
     let mut table = [0u16; 4096];
     decode(bytes, n, &mut table);
-    packed(arrays::judge(a, &table, n))
+    packed(judging::judge(a, &table, n))
 }
 
 // Counts the arrays of n places that stand over a letters: number + 4 * count. Numbers 0, 1 and 2.

@@ -1,10 +1,11 @@
 // Work that needs a table of echoes or reach: each table is a local of 4,096 entries, of which the first n are lent.
+use words::LIMIT;
 ghost use mathlib.Core.Path.{_≡_};
 ghost use Prim.Native.Nat.{_≤_, _<_};
 ghost use lib.ListN.{length};
 ghost use Rattle.words.specs.Numbers.{letters, limit, differing};
 ghost use Rattle.words.specs.Rows.{card, echo, echoes, reaches, looks};
-ghost use Rattle.words.specs.Strips.{overlap};
+ghost use Rattle.words.specs.Strips.{closed, overlap, joint};
 ghost use Rattle.words.specs.Sheet.{sheet};
 ghost use Rattle.sheets.specs.Writing.{written};
 
@@ -19,7 +20,7 @@ pub fn looks_within(row: &[u8]) -> usize
 }
 
 // The echo of the last place of a row within the limit that is not empty.
-pub fn last_within(row: &[u8]) -> usize
+fn last_within(row: &[u8]) -> usize
     requires { ⌜ (0 < length (now row)) × (length (now row) ≤ limit) ⌝ }
     ensures { λ r. ⌜ (r ≡ echo (card (now (row .entry))) (length (now (row .entry)))) × (r ≤ length (now (row .entry))) ⌝ }
 {
@@ -29,13 +30,41 @@ pub fn last_within(row: &[u8]) -> usize
 }
 
 // The overlap of two rows, the right one within the limit and not empty.
-pub fn overlap_within(left: &[u8], right: &[u8]) -> usize
+fn overlap_within(left: &[u8], right: &[u8]) -> usize
     requires { ⌜ (0 < length (now right)) × (length (now right) ≤ limit) ⌝ }
     ensures { λ r. ⌜ r ≡ overlap (card (now (left .entry))) (length (now (left .entry))) (card (now (right .entry))) (length (now (right .entry))) ⌝ }
 {
     let m = right.len();
     let mut table = [0u16; 4096];
     rows::overlap(left, right, &mut table[..m])
+}
+
+// The length of the closing strip.
+pub fn closing_length(row: &[u8]) -> usize
+    ensures { λ r. ⌜ (r ≡ closed (now (row .entry))) × (r ≤ length (now (row .entry))) ⌝ }
+{
+    if row.len() == 0 {
+        0
+    } else if LIMIT < row.len() {
+        0
+    } else {
+        last_within(row)
+    }
+}
+
+// The length of the joining strip.
+pub fn joining_length(left: &[u8], right: &[u8]) -> usize
+    ensures { λ r. ⌜ (r ≡ joint (now (left .entry)) (now (right .entry))) × (r ≤ length (now (left .entry))) × (r ≤ length (now (right .entry))) ⌝ }
+{
+    if right.len() == 0 {
+        0
+    } else if LIMIT < right.len() {
+        0
+    } else if LIMIT < left.len() {
+        0
+    } else {
+        overlap_within(left, right)
+    }
 }
 
 // The sheet of a row whose tables are known.

@@ -1,6 +1,6 @@
 -- `number_of`: one lemma of `Judging` for each way out. Assumes nothing.
 use borrow.Author.Needs.{needs}
-use Rattle.arrays.proofs.Judging.{first-zero, first-above, later-more, later-fits, later-full, behind-in, behind-sound}
+use Rattle.arrays.proofs.Behind.{first-zero, first-above, later-more, later-fits, later-full, behind-in, behind-sound}
 use Rattle.arrays.proofs.number_of.Statement.{statement}
 use Rattle.arrays.proofs.number_of.Tie as tie
 

@@ -2,7 +2,7 @@
 use borrow.Author.Needs.{needs}
 use Rattle.words.specs.Outcomes.{count-outcome}
 use Rattle.words.proofs.Checks.{counted-none, counted-some}
-use Rattle.corridor.proofs.Stepping.{count-within}
+use Rattle.corridor.proofs.Entries.{count-within}
 use Rattle.corridor.proofs.count.Statement.{statement}
 use Rattle.corridor.proofs.count.Tie as tie
 

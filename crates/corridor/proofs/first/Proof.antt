@@ -1,6 +1,6 @@
 -- `corridor::first`. Assumes nothing.
 use borrow.Author.Needs.{needs}
-use Rattle.corridor.proofs.Stepping.{first-refuses, first-letters, first-within, first-room, first-least}
+use Rattle.corridor.proofs.Entries.{cleared, first-refuses, first-starts}
 use Rattle.corridor.proofs.first.Statement.{statement}
 use Rattle.corridor.proofs.first.Tie as tie
 
@@ -11,17 +11,13 @@ returns : tie.Need-returns
 returns c = search (needs, first-refuses)
 
 first-requires : tie.Need-first-requires
-first-requires c κs = (search (needs, first-letters), search (needs, first-within), search needs)
-
-give-requires : tie.Need-give-requires
-give-requires c κs = (search (needs, first-room), search needs)
+first-requires c κs = search (needs, cleared)
 
 same-length : tie.Need-same-length
 same-length c = search needs
 
 returns-2 : tie.Need-returns-2
-returns-2 c = search (needs, first-least)
+returns-2 c = search (needs, first-starts)
 
 pub first-spec : {M : Type 1} → statement M
-first-spec =
-    tie.close (tie.spec lent-requires returns first-requires give-requires same-length returns-2)
+first-spec = tie.close (tie.spec lent-requires returns first-requires same-length returns-2)

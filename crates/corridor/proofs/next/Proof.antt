@@ -1,6 +1,6 @@
 -- `corridor::next`. Assumes nothing.
 use borrow.Author.Needs.{needs}
-use Rattle.corridor.proofs.Stepping.{next-refuses, judge-within, next-clear}
+use Rattle.corridor.proofs.Entries.{cleared, next-refuses}
 use Rattle.corridor.proofs.next.Statement.{statement}
 use Rattle.corridor.proofs.next.Tie as tie
 
@@ -10,11 +10,8 @@ sizes-requires c κs = search needs
 returns : tie.Need-returns
 returns c = search (needs, next-refuses)
 
-hold-requires : tie.Need-hold-requires
-hold-requires c κs = (search (needs, judge-within), search needs)
-
-next-in-requires : tie.Need-next-in-requires
-next-in-requires c κs = (search (needs, next-clear), search needs, search needs)
+next-requires : tie.Need-next-requires
+next-requires c κs = search (needs, cleared)
 
 same-length : tie.Need-same-length
 same-length c = search needs
@@ -23,6 +20,4 @@ returns-2 : tie.Need-returns-2
 returns-2 c = search needs
 
 pub next-spec : {M : Type 1} → statement M
-next-spec =
-    tie.close
-    (tie.spec sizes-requires returns hold-requires next-in-requires same-length returns-2)
+next-spec = tie.close (tie.spec sizes-requires returns next-requires same-length returns-2)
