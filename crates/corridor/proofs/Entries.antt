@@ -14,7 +14,7 @@ use Rattle.words.specs.Listing.{First}
 use Rattle.words.specs.Outcomes.{given, kept, sheet-outcome, guess-outcome, Rebuilds, Starts, Steps, refuses, starts}
 use Rattle.words.specs.Strips.{closed, closing, joint, joining}
 use Rattle.words.proofs.Checks.{refusal-stop, refusal-last, refusal-clear, long-clear, matching-clear, sizes-clear, lent-clear}
-use Rattle.sheets.specs.Writing.{written}
+use Rattle.sheets.specs.Written.{written}
 use Rattle.sheets.proofs.Outcome.{sheet-written}
 
 -- a check whose number is 0 refuses nothing

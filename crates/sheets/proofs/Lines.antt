@@ -11,10 +11,11 @@ use borrow.Rule.Slice.PartMut.{midOf, putMid}
 use Rattle.words.specs.Numbers.{DONE, ROOM, unless}
 use Rattle.words.specs.Outcomes.{given, kept}
 use Rattle.words.specs.Sheet.{Line, line, text, wordSheet, wordEcho, wordReach, wordLooks}
-use Rattle.sheets.specs.Writing.{Put, Begun, written}
+use Rattle.fields.specs.Writing.{Put, Begun}
+use Rattle.sheets.specs.Written.{written}
 use Rattle.sheets.specs.Tables.{periodsLine, tableLines, lineCount, nth}
 use Rattle.sheets.proofs.Reading.{text-nil, text-cons}
-use Rattle.sheets.proofs.Parts.{begun-room, begun-more, begun-done}
+use Rattle.fields.proofs.Parts.{begun-room, begun-more, begun-done}
 
 -- which line is the i-th
 module _ (n a k : ℕ) (e r : List ℕ) (i : ℕ) where

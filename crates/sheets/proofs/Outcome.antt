@@ -11,7 +11,7 @@ use Rattle.words.specs.Sheet.{lines, text, sheet}
 use Rattle.words.specs.Outcomes.{sheet-outcome, given, kept}
 use Rattle.words.proofs.Lists.{which, either}
 use Rattle.words.proofs.Checks.{refusal-last}
-use Rattle.sheets.specs.Writing.{written}
+use Rattle.sheets.specs.Written.{written}
 use Rattle.rows.proofs.Alone.{periods-echoes}
 use Rattle.sheets.specs.Tables.{periodsLine, tableLines}
 

@@ -12,7 +12,7 @@ use Rattle.words.specs.Rows.{Small}
 use Rattle.words.specs.Numbers.{limit}
 use Rattle.words.specs.Sheet.{decimal, fields, line, wordPeriods}
 use Rattle.words.proofs.Rows.{chain-zero, chain-suc}
-use Rattle.sheets.specs.Writing.{Put}
+use Rattle.fields.specs.Writing.{Put}
 use Rattle.rows.specs.Reach.{periodsAlong, periodsOf}
 use Rattle.sheets.specs.Tables.{periodsLine}
 

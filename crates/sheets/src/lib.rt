@@ -1,95 +1,26 @@
-// The sheet: each writer gets the part of the buffer from the current end onward and answers how many bytes it wrote.
+// The sheet: its five lines, each written into the buffer behind the one before, where there is room for all.
+use fields::byte;
+use fields::field;
+use fields::list_len;
+use fields::list_line;
+use fields::width;
+use fields::word;
 use words::DONE;
 use words::ROOM;
 ghost use mathlib.Core.Path.{_≡_};
-ghost use mathlib.Core.List.{[], _∷_};
 ghost use Prim.Native.Nat.{_+_, _*_, _≤_, _<_};
 ghost use lib.ListN.{length};
 ghost use Rattle.words.specs.Lists.{at};
 ghost use Rattle.words.specs.Rows.{Small};
 ghost use Rattle.words.specs.Numbers.{limit};
-ghost use Rattle.words.specs.Sheet.{decimal, fields, line, text};
+ghost use Rattle.words.specs.Sheet.{fields, line, text};
 ghost use Rattle.rows.specs.Reach.{periodsAlong};
-ghost use Rattle.sheets.specs.Writing.{Put, written};
+ghost use Rattle.fields.specs.Writing.{Put};
+ghost use Rattle.sheets.specs.Written.{written};
 ghost use Rattle.sheets.specs.Tables.{periodsLine, tableLines, lineCount, nth};
 
 // How many lines a sheet has.
 const LINES: usize = 5;
-
-fn byte(out: &mut [u8], b: u8) -> usize
-    requires { ⌜ 0 < length (now out) ⌝ }
-    ensures { λ r. ⌜ Put (b ∷ []) (now (out .entry)) (now (out .exit)) r ⌝ }
-{
-    out[0] = b;
-    1
-}
-
-fn digit(n: usize) -> u8
-    requires { ⌜ n < 10 ⌝ }
-    ensures { λ r. ⌜ r ≡ 48 + n ⌝ }
-{
-    b'0' + n as u8
-}
-
-// A number in decimal.
-fn number(out: &mut [u8], n: usize) -> usize
-    requires { ⌜ length (decimal n) ≤ length (now out) ⌝ }
-    ensures { λ r. ⌜ Put (decimal n) (now (out .entry)) (now (out .exit)) r ⌝ }
-{
-    if n < 10 {
-        byte(out, digit(n))
-    } else {
-        let k = number(out, n / 10);
-        let d = digit(n % 10);
-        k + byte(&mut out[k..], d)
-    }
-}
-
-// A tab and a number.
-fn field(out: &mut [u8], n: usize) -> usize
-    requires { ⌜ length (9 ∷ decimal n) ≤ length (now out) ⌝ }
-    ensures { λ r. ⌜ Put (9 ∷ decimal n) (now (out .entry)) (now (out .exit)) r ⌝ }
-{
-    let k = byte(out, b'\t');
-    k + number(&mut out[k..], n)
-}
-
-// The bytes of a word.
-fn word(out: &mut [u8], w: &[u8]) -> usize
-    requires { ⌜ length (now w) ≤ length (now out) ⌝ }
-    ensures { λ r. ⌜ Put (now (w .entry)) (now (out .entry)) (now (out .exit)) r ⌝ }
-{
-    let mut i = 0;
-    while i < w.len() {
-        out[i] = w[i];
-        i += 1;
-    }
-    i
-}
-
-// A tab before each number, byte 10 at the end.
-fn numbers(out: &mut [u8], l: &[u16]) -> usize
-    requires { ⌜ length (fields (now l)) ≤ length (now out) ⌝ }
-    ensures { λ r. ⌜ Put (fields (now (l .entry))) (now (out .entry)) (now (out .exit)) r ⌝ }
-{
-    let mut at = 0;
-    let mut i = 0;
-    while i < l.len() {
-        let m = words::wide(l[i]);
-        at += field(&mut out[at..], m);
-        i += 1;
-    }
-    at + byte(&mut out[at..], b'\n')
-}
-
-// A line of a word and numbers.
-fn list_line(out: &mut [u8], w: &[u8], l: &[u16]) -> usize
-    requires { ⌜ length (line (record { word = now w; numbers = now l })) ≤ length (now out) ⌝ }
-    ensures { λ r. ⌜ Put (line (record { word = now (w .entry); numbers = now (l .entry) })) (now (out .entry)) (now (out .exit)) r ⌝ }
-{
-    let k = word(out, w);
-    k + numbers(&mut out[k..], l)
-}
 
 // The periods along the chain from b on: a walk that calls itself on the next echo.
 fn walk(out: &mut [u8], e: &[u16], b: usize) -> usize
@@ -159,36 +90,6 @@ fn all_lines(out: &mut [u8], n: u16, a: u16, e: &[u16], r: &[u16], looks: u16) -
 }
 
 // The lengths, counted before the first byte is written. Their bounds are wide: they keep the sums within 64 bits.
-
-// How many digits n has.
-fn width(n: usize) -> usize
-    ensures { λ r. ⌜ (r ≡ length (decimal n)) × (r ≤ 20) ⌝ }
-{
-    if n < 10 { 1 } else { width(n / 10) + 1 }
-}
-
-// How long the numbers of l are as text.
-fn numbers_len(l: &[u16]) -> usize
-    requires { ⌜ length (now l) ≤ limit ⌝ }
-    ensures { λ r. ⌜ (r ≡ length (fields (now (l .entry)))) × (r < 90000) ⌝ }
-{
-    let mut k = 0;
-    let mut i = 0;
-    while i < l.len() {
-        let m = words::wide(l[i]);
-        k = k + 1 + width(m);
-        i += 1;
-    }
-    k + 1
-}
-
-// How long a line of a word and numbers is.
-fn list_len(w: &[u8], l: &[u16]) -> usize
-    requires { ⌜ (length (now w) ≤ 7) × (length (now l) ≤ limit) ⌝ }
-    ensures { λ r. ⌜ (r ≡ length (line (record { word = now (w .entry); numbers = now (l .entry) }))) × (r < 100000) ⌝ }
-{
-    w.len() + numbers_len(l)
-}
 
 // How long the periods are as text, along the chain from b on.
 fn walk_len(e: &[u16], b: usize) -> usize

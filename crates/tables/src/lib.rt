@@ -7,7 +7,7 @@ ghost use Rattle.words.specs.Numbers.{letters, limit, differing};
 ghost use Rattle.words.specs.Rows.{card, echo, echoes, reaches, looks};
 ghost use Rattle.words.specs.Strips.{closed, overlap, joint};
 ghost use Rattle.words.specs.Sheet.{sheet};
-ghost use Rattle.sheets.specs.Writing.{written};
+ghost use Rattle.sheets.specs.Written.{written};
 
 // The looks of a row within the limit.
 pub fn looks_within(row: &[u8]) -> usize

@@ -1,6 +1,6 @@
 -- `walk`: each echo is below its place. Assumes nothing.
 use borrow.Author.Needs.{needs}
-use Rattle.sheets.proofs.Parts.{put-room, put-then, sum-fits}
+use Rattle.fields.proofs.Parts.{put-room, put-then, sum-fits}
 use Rattle.sheets.proofs.Periods.{fields-first, walk-split, walk-field, walk-falls, walk-in, walk-end}
 use Prim.Native.Nat.{ℕ, _<_}
 use borrow.Fn.Kinds.{In}
@@ -9,8 +9,8 @@ use Rattle.sheets.proofs.walk.Reads as walk
 use Rattle.sheets.proofs.walk.Kinds as walk-kinds
 use Rattle.sheets.proofs.+walk.Lts-walk as walk-lts
 use Rattle.rows.proofs.echo_at.Reads as echo-at-reads
-use Rattle.sheets.proofs.byte.Reads as byte-reads
-use Rattle.sheets.proofs.field.Reads as field-reads
+use Rattle.fields.proofs.byte.Reads as byte-reads
+use Rattle.fields.proofs.field.Reads as field-reads
 use Rattle.sheets.proofs.+walk.{statement}
 use Rattle.sheets.proofs.+walk.Tie.{close}
 

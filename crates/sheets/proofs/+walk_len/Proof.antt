@@ -8,7 +8,7 @@ use Rattle.sheets.proofs.walk_len.Reads as walk-len
 use Rattle.sheets.proofs.walk_len.Kinds as walk-len-kinds
 use Rattle.sheets.proofs.+walk_len.Lts-walk_len as walk-len-lts
 use Rattle.rows.proofs.echo_at.Reads as echo-at-reads
-use Rattle.sheets.proofs.width.Reads as width-reads
+use Rattle.fields.proofs.width.Reads as width-reads
 use Rattle.sheets.proofs.+walk_len.{statement}
 use Rattle.sheets.proofs.+walk_len.Tie.{close}
 

@@ -3,9 +3,9 @@ use borrow.Author.Needs.{needs}
 use Prim.Native.Nat.{_-_, _≤_}
 use lib.ListN.{drop}
 use Rattle.words.specs.Sheet.{text}
-use Rattle.sheets.specs.Writing.{Begun}
+use Rattle.fields.specs.Writing.{Begun}
 use Rattle.sheets.specs.Tables.{tableLines, lineCount}
-use Rattle.sheets.proofs.Parts.{sum-fits, begun-none, begun-in, begun-long}
+use Rattle.fields.proofs.Parts.{sum-fits, begun-none, begun-in, begun-long}
 use Rattle.sheets.proofs.Lines.{lines-count, lines-room, lines-more, lines-done}
 use Rattle.sheets.proofs.all_lines.Statement.{statement}
 use Rattle.sheets.proofs.all_lines.Tie as tie

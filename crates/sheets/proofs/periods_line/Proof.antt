@@ -2,7 +2,7 @@
 use borrow.Author.Needs.{needs}
 use Rattle.words.specs.Sheet.{line}
 use Rattle.sheets.specs.Tables.{periodsLine}
-use Rattle.sheets.proofs.Parts.{head-room, put-room, put-then, sum-fits}
+use Rattle.fields.proofs.Parts.{head-room, put-room, put-then, sum-fits}
 use Rattle.sheets.proofs.Periods.{periods-split}
 use Rattle.sheets.proofs.periods_line.Statement.{statement}
 use Rattle.sheets.proofs.periods_line.Tie as tie

@@ -2,10 +2,7 @@
 use mathlib.Core.Path.{_≡_}
 use mathlib.Core.List.{List, _++_}
 use Prim.Native.Nat.{ℕ, _≤_}
-use lib.Dec.{leb}
 use lib.ListN.{length, drop}
-use Rattle.words.specs.Numbers.{ROOM, unless}
-use Rattle.words.specs.Outcomes.{given, kept}
 
 -- the text t was put at the start of old, which gave new, and counted r bytes: the contract of every writer
 pub record Put (t old new : List ℕ) (r : ℕ) : Type 0 where
@@ -19,7 +16,3 @@ pub record Begun (whole rest old new : List ℕ) (r : ℕ) : Type 0 where
   pub done : List ℕ
   pub split : whole ≡ done ++ rest
   pub put : Put done old new r
-
--- number, length and buffer of a text that is written where it fits, else not at all
-unfoldable pub written : List ℕ → List ℕ → ℕ × ℕ × List ℕ
-written t old = let r = unless (leb (length t) (length old)) ROOM in (r .0, given r (length t), kept r (t ++ drop (length t) old) old)

@@ -9,7 +9,7 @@ use lib.Seq.{set-split, take-suc, take-append-seam, drop-append-seam, drop-drop,
 use mir.Syntax.{w64}
 use mir.Val.{Fits}
 use borrow.Rule.Slice.PartMut.{midOf, putMid}
-use Rattle.sheets.specs.Writing.{Put, Begun}
+use Rattle.fields.specs.Writing.{Put, Begun}
 
 -- the part from k on, and the whole once it is back
 part-is : (k : ℕ) (l : List ℕ) → midOf k (length l - k) l ≡ drop k l

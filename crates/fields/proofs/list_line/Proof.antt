@@ -1,9 +1,9 @@
 -- `list_line`. Assumes nothing.
 use borrow.Author.Needs.{needs}
 use Rattle.words.specs.Sheet.{line}
-use Rattle.sheets.proofs.Parts.{head-room, put-room, put-then, sum-fits}
-use Rattle.sheets.proofs.list_line.Statement.{statement}
-use Rattle.sheets.proofs.list_line.Tie as tie
+use Rattle.fields.proofs.Parts.{head-room, put-room, put-then, sum-fits}
+use Rattle.fields.proofs.list_line.Statement.{statement}
+use Rattle.fields.proofs.list_line.Tie as tie
 
 word-requires : tie.Need-word-requires
 unfolding line

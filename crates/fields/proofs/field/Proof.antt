@@ -1,8 +1,8 @@
 -- `field`. Assumes nothing.
 use borrow.Author.Needs.{needs}
-use Rattle.sheets.proofs.Parts.{put-room, put-then, sum-fits}
-use Rattle.sheets.proofs.field.Statement.{statement}
-use Rattle.sheets.proofs.field.Tie as tie
+use Rattle.fields.proofs.Parts.{put-room, put-then, sum-fits}
+use Rattle.fields.proofs.field.Statement.{statement}
+use Rattle.fields.proofs.field.Tie as tie
 
 byte-requires : tie.Need-byte-requires
 byte-requires c κs = search needs

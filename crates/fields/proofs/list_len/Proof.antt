@@ -1,8 +1,8 @@
 -- `list_len`. Assumes nothing.
 use borrow.Author.Needs.{needs}
-use Rattle.sheets.proofs.Fields.{line-long}
-use Rattle.sheets.proofs.list_len.Statement.{statement}
-use Rattle.sheets.proofs.list_len.Tie as tie
+use Rattle.fields.proofs.Fields.{line-long}
+use Rattle.fields.proofs.list_len.Statement.{statement}
+use Rattle.fields.proofs.list_len.Tie as tie
 
 numbers-len-requires : tie.Need-numbers-len-requires
 numbers-len-requires c κs = search needs

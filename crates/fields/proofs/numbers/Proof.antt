@@ -3,11 +3,11 @@ use borrow.Author.Needs.{needs}
 use Prim.Native.Nat.{_-_, _≤_}
 use lib.ListN.{length, drop}
 use Rattle.words.specs.Sheet.{fields}
-use Rattle.sheets.specs.Writing.{Begun}
-use Rattle.sheets.proofs.Parts.{sum-fits, begun-none, begun-in, begun-long}
-use Rattle.sheets.proofs.Fields.{numbers-room, numbers-more, numbers-last, numbers-done}
-use Rattle.sheets.proofs.numbers.Statement.{statement}
-use Rattle.sheets.proofs.numbers.Tie as tie
+use Rattle.fields.specs.Writing.{Begun}
+use Rattle.fields.proofs.Parts.{sum-fits, begun-none, begun-in, begun-long}
+use Rattle.fields.proofs.Fields.{numbers-room, numbers-more, numbers-last, numbers-done}
+use Rattle.fields.proofs.numbers.Statement.{statement}
+use Rattle.fields.proofs.numbers.Tie as tie
 
 abbrev Inv-loop : tie.InvT-loop
 Inv-loop out₀ l at₀ i₀ out at i = (i ≤ length l) × Begun (fields l) (fields (drop i l)) out₀ out at

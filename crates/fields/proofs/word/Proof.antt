@@ -2,10 +2,10 @@
 use borrow.Author.Needs.{needs}
 use Prim.Native.Nat.{_-_, _≤_}
 use lib.ListN.{length, take}
-use Rattle.sheets.specs.Writing.{Put}
-use Rattle.sheets.proofs.Parts.{put-none, word-more, word-done}
-use Rattle.sheets.proofs.word.Statement.{statement}
-use Rattle.sheets.proofs.word.Tie as tie
+use Rattle.fields.specs.Writing.{Put}
+use Rattle.fields.proofs.Parts.{put-none, word-more, word-done}
+use Rattle.fields.proofs.word.Statement.{statement}
+use Rattle.fields.proofs.word.Tie as tie
 
 abbrev Inv-loop : tie.InvT-loop
 Inv-loop out₀ w i₀ out i = (i ≤ length w) × Put (take i w) out₀ out i

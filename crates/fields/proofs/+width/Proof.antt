@@ -1,14 +1,14 @@
 -- `width`: n / 10 is less than n. Assumes nothing.
 use borrow.Author.Needs.{needs}
-use Rattle.sheets.proofs.Fields.{number-falls, width-end, width-more, width-low}
+use Rattle.fields.proofs.Fields.{number-falls, width-end, width-more, width-low}
 use Prim.Native.Nat.{ℕ, _<_}
 use borrow.Fn.Kinds.{In}
 use borrow.Fn.PlainCycle.{Measures, is, falls, and}
-use Rattle.sheets.proofs.width.Reads as width
-use Rattle.sheets.proofs.width.Kinds as width-kinds
-use Rattle.sheets.proofs.+width.Lts-width as width-lts
-use Rattle.sheets.proofs.+width.{statement}
-use Rattle.sheets.proofs.+width.Tie.{close}
+use Rattle.fields.proofs.width.Reads as width
+use Rattle.fields.proofs.width.Kinds as width-kinds
+use Rattle.fields.proofs.+width.Lts-width as width-lts
+use Rattle.fields.proofs.+width.{statement}
+use Rattle.fields.proofs.+width.Tie.{close}
 
 abbrev μ-width : Measures 0 width-kinds.ps ℕ
 μ-width κs a = a .0

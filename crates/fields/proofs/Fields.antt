@@ -8,8 +8,8 @@ use lib.ListN.{length, getD, drop, length-append, drop-of-length-le}
 use lib.Seq.{drop-cons}
 use borrow.Rule.Slice.PartMut.{midOf, putMid}
 use Rattle.words.specs.Sheet.{decimal, fields, line}
-use Rattle.sheets.specs.Writing.{Put, Begun}
-use Rattle.sheets.proofs.Parts.{part-long, put-then, begun-room, begun-more, begun-last}
+use Rattle.fields.specs.Writing.{Put, Begun}
+use Rattle.fields.proofs.Parts.{part-long, put-then, begun-room, begun-more, begun-last}
 use Rattle.words.proofs.Decimal.{decimal-small, decimal-more, decimal-long, decimal-some, decimal-width}
 
 -- a number

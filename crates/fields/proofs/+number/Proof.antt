@@ -1,17 +1,17 @@
 -- `number`: n / 10 is less than n. Assumes nothing.
 use borrow.Author.Needs.{needs}
-use Rattle.sheets.proofs.Parts.{sum-fits}
-use Rattle.sheets.proofs.Fields.{number-first, number-next, number-falls, number-room, number-end, number-more}
+use Rattle.fields.proofs.Parts.{sum-fits}
+use Rattle.fields.proofs.Fields.{number-first, number-next, number-falls, number-room, number-end, number-more}
 use Prim.Native.Nat.{ℕ, _<_}
 use borrow.Fn.Kinds.{In}
 use borrow.Fn.PlainCycle.{Measures, is, falls, and}
-use Rattle.sheets.proofs.number.Reads as number
-use Rattle.sheets.proofs.number.Kinds as number-kinds
-use Rattle.sheets.proofs.+number.Lts-number as number-lts
-use Rattle.sheets.proofs.byte.Reads as byte-reads
-use Rattle.sheets.proofs.digit.Reads as digit-reads
-use Rattle.sheets.proofs.+number.{statement}
-use Rattle.sheets.proofs.+number.Tie.{close}
+use Rattle.fields.proofs.number.Reads as number
+use Rattle.fields.proofs.number.Kinds as number-kinds
+use Rattle.fields.proofs.+number.Lts-number as number-lts
+use Rattle.fields.proofs.byte.Reads as byte-reads
+use Rattle.fields.proofs.digit.Reads as digit-reads
+use Rattle.fields.proofs.+number.{statement}
+use Rattle.fields.proofs.+number.Tie.{close}
 
 abbrev μ-number : Measures 1 number-kinds.ps ℕ
 μ-number κs a = a .1 .0

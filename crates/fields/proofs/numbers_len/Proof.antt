@@ -4,9 +4,9 @@ use mathlib.Core.Path.{_≡_}
 use Prim.Native.Nat.{_+_, _-_, _*_, _≤_}
 use lib.ListN.{length, drop}
 use Rattle.words.specs.Sheet.{fields}
-use Rattle.sheets.proofs.Fields.{count-none, count-more, count-done}
-use Rattle.sheets.proofs.numbers_len.Statement.{statement}
-use Rattle.sheets.proofs.numbers_len.Tie as tie
+use Rattle.fields.proofs.Fields.{count-none, count-more, count-done}
+use Rattle.fields.proofs.numbers_len.Statement.{statement}
+use Rattle.fields.proofs.numbers_len.Tie as tie
 
 abbrev Inv-loop : tie.InvT-loop
 Inv-loop l k₀ i₀ k i = (i ≤ length l) × (k ≤ 21 * i) × (length (fields l) ≡ k + length (fields (drop i l)))

@@ -1,8 +1,8 @@
 -- `byte`. Assumes nothing.
 use borrow.Author.Needs.{needs}
-use Rattle.sheets.proofs.Parts.{put-byte}
-use Rattle.sheets.proofs.byte.Statement.{statement}
-use Rattle.sheets.proofs.byte.Tie as tie
+use Rattle.fields.proofs.Parts.{put-byte}
+use Rattle.fields.proofs.byte.Statement.{statement}
+use Rattle.fields.proofs.byte.Tie as tie
 
 slice-write-out : tie.Need-slice-write-out
 slice-write-out c = search needs
