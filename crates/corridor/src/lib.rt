@@ -71,7 +71,7 @@ pub fn reach(a: usize, row: &[u8], out: &mut [u16]) -> Answer
     if lent.number != DONE {
         return lent;
     }
-    rows::reach::reaches(row, out);
+    reaches::reaches(row, out);
     lent
 }
 

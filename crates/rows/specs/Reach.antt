@@ -1,12 +1,11 @@
--- Reach, periods and looks from the echoes alone, and what the loop that writes a reach table keeps. Assumes nothing: these are definitions.
-use mathlib.Core.Path.{_≡_}
+-- Reach and periods from the echoes alone. Assumes nothing: these are definitions.
 use mathlib.Core.Bool.{Bool}
 use mathlib.Core.List.{List}
-use Prim.Native.Nat.{ℕ, zero, suc, _+_, _-_, _≤_, _<_}
+use Prim.Native.Nat.{ℕ, zero, suc, _+_, _-_}
 use lib.Dec.{ltb, eqb}
 use lib.ListN.{length}
 use Rattle.words.specs.Lists.{each, any, keep, greatest, places, at}
-use Rattle.words.specs.Rows.{card, chain, reach}
+use Rattle.words.specs.Rows.{chain}
 
 -- k is on the chain of place i
 unfoldable pub onChain : (ℕ → ℕ) → ℕ → ℕ → Bool
@@ -29,10 +28,3 @@ periodsAlong E n b = each (λ k. n - k) (keep (ltb 0) (chain E b))
 -- the periods of the rows with the echoes e: along the chain of the last place
 unfoldable pub periodsOf : List ℕ → List ℕ
 periodsOf e = periodsAlong (at e) (length e) (at e (length e))
-
--- the reaches of the first i places of x stand in t, and the window that is kept lies behind the first l cards; l = 0 is no window
-pub record Reaching (x t : List ℕ) (l i : ℕ) : Type 0 where
-  pub below : l < i
-  pub within : i ≤ length x
-  pub whole : length t ≡ length x
-  pub right : (d : ℕ) → d < i → at t (suc d) ≡ reach (card x) (length x) (suc d)

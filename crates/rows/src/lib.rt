@@ -1,6 +1,4 @@
 // From cards: echoes, looks and overlaps. A row is read only by `card_at`, a table of echoes only by `echo_at`, and written only by `put_echo`.
-pub mod reach;
-
 ghost use mathlib.Core.Path.{_≡_};
 ghost use Prim.Native.Nat.{_+_, _≤_, _<_};
 ghost use lib.ListN.{length};

@@ -83,7 +83,7 @@ fn sheet_in(a: usize, row: &[u8], e: &mut [u16], r: &mut [u16], buf: &mut [u8]) 
     ensures { λ s. ⌜ (s .number, s .length, now (buf .exit)) ≡ written (sheet a (now (row .entry))) (now (buf .entry)) ⌝ }
 {
     rows::echoes(row, e);
-    rows::reach::reaches(row, r);
+    reaches::reaches(row, r);
     sheet_of(a, row, e, r, buf)
 }
 

@@ -1,8 +1,8 @@
--- `reach::same_card`. Assumes nothing.
+-- `reaches::same_card`. Assumes nothing.
 use borrow.Author.Needs.{needs}
-use Rattle.rows.proofs.Reaching.{compared}
-use Rattle.rows.proofs.reach.same_card.Statement.{statement}
-use Rattle.rows.proofs.reach.same_card.Tie as tie
+use Rattle.reaches.proofs.Window.{compared}
+use Rattle.reaches.proofs.same_card.Statement.{statement}
+use Rattle.reaches.proofs.same_card.Tie as tie
 
 card-at-requires : tie.Need-card-at-requires
 card-at-requires c κs = search needs

@@ -1,14 +1,14 @@
 // The reach table of a row, in linear time. A reach stands in a table as an echo does.
-use crate::card_at;
-use crate::echo_at;
-use crate::put_echo;
+use rows::card_at;
+use rows::echo_at;
+use rows::put_echo;
 ghost use mathlib.Core.Path.{_≡_};
 ghost use Prim.Native.Nat.{_+_, _≤_, _<_};
 ghost use lib.Dec.{eqb};
 ghost use lib.ListN.{length};
 ghost use Rattle.words.specs.Numbers.{limit};
 ghost use Rattle.words.specs.Rows.{card, reach, reaches as reachesOf};
-ghost use Rattle.rows.specs.Reach.{Reaching};
+ghost use Rattle.reaches.specs.Reach.{Reaching};
 
 fn lesser(a: usize, b: usize) -> usize
     ensures { λ r. ⌜ (r ≤ a) × (r ≤ b) ⌝ }

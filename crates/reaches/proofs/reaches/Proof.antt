@@ -1,11 +1,11 @@
--- `reach::reaches`. Assumes nothing.
+-- `reaches::reaches`. Assumes nothing.
 use borrow.Author.Needs.{needs}
 use Prim.Native.Nat.{_-_}
 use lib.ListN.{length}
-use Rattle.rows.specs.Reach.{Reaching}
-use Rattle.rows.proofs.Reaching.{reach-start, reach-done, reach-none}
-use Rattle.rows.proofs.reach.reaches.Statement.{statement}
-use Rattle.rows.proofs.reach.reaches.Tie as tie
+use Rattle.reaches.specs.Reach.{Reaching}
+use Rattle.reaches.proofs.Window.{reach-start, reach-done, reach-none}
+use Rattle.reaches.proofs.reaches.Statement.{statement}
+use Rattle.reaches.proofs.reaches.Tie as tie
 
 abbrev Inv-loop : tie.InvT-loop
 Inv-loop row out₀ l₀ i₀ out l i = Reaching row out l i

@@ -1,8 +1,8 @@
--- `reach::next_reach`. Assumes nothing.
+-- `reaches::next_reach`. Assumes nothing.
 use borrow.Author.Needs.{needs}
-use Rattle.rows.proofs.Reaching.{reach-next}
-use Rattle.rows.proofs.reach.next_reach.Statement.{statement}
-use Rattle.rows.proofs.reach.next_reach.Tie as tie
+use Rattle.reaches.proofs.Window.{reach-next}
+use Rattle.reaches.proofs.next_reach.Statement.{statement}
+use Rattle.reaches.proofs.next_reach.Tie as tie
 
 mirrored-requires : tie.Need-mirrored-requires
 mirrored-requires c κs = search needs

@@ -1,11 +1,11 @@
--- `reach::stretched`: the first m cards agree; the measure is what is left of the row. Assumes nothing.
+-- `reaches::stretched`: the first m cards agree; the measure is what is left of the row. Assumes nothing.
 use borrow.Author.Needs.{needs}
 use Prim.Native.Nat.{_+_, _-_, _≤_}
 use lib.ListN.{length}
 use Rattle.words.specs.Rows.{card, reach}
-use Rattle.rows.proofs.Reaching.{stretch-start, stretch-stop, stretch-more, stretch-end}
-use Rattle.rows.proofs.reach.stretched.Statement.{statement}
-use Rattle.rows.proofs.reach.stretched.Tie as tie
+use Rattle.reaches.proofs.Window.{stretch-start, stretch-stop, stretch-more, stretch-end}
+use Rattle.reaches.proofs.stretched.Statement.{statement}
+use Rattle.reaches.proofs.stretched.Tie as tie
 
 abbrev Inv-loop : tie.InvT-loop
 Inv-loop row i k m₀ m = (i + m ≤ length row) × (m ≤ reach (card row) (length row) (i + 1))

@@ -1,8 +1,8 @@
--- `reach::mirrored`: what the window and the mirror place tell (`reach-mirrored`). Assumes nothing.
+-- `reaches::mirrored`: what the window and the mirror place tell (`reach-mirrored`). Assumes nothing.
 use borrow.Author.Needs.{needs}
-use Rattle.rows.proofs.Reaching.{reach-mirrored}
-use Rattle.rows.proofs.reach.mirrored.Statement.{statement}
-use Rattle.rows.proofs.reach.mirrored.Tie as tie
+use Rattle.reaches.proofs.Window.{reach-mirrored}
+use Rattle.reaches.proofs.mirrored.Statement.{statement}
+use Rattle.reaches.proofs.mirrored.Tie as tie
 
 returns : tie.Need-returns
 returns c = search needs
