@@ -13,7 +13,7 @@ ghost use lib.ListN.{length, take};
 ghost use Rattle.words.specs.Lists.{at};
 ghost use Rattle.words.specs.Numbers.{limit};
 ghost use Rattle.words.specs.Stand.{opens, weight, weighed};
-ghost use Rattle.arrays.specs.Steps.{Passes, Sound, Slides, Holds};
+ghost use Rattle.arrays.specs.Steps.{Passes, Sound, Slides, Holds, peak};
 
 // Writes the echoes into the table.
 pub fn hold(e: &[u16], t: &mut [u16; 4096])
@@ -45,6 +45,14 @@ pub fn echo(t: &[u16; 4096], i: usize) -> usize
     ensures { λ r. ⌜ (r ≡ at (now (t .entry)) i) × (r < 65536) ⌝ }
 {
     echo_at(t, i)
+}
+
+// The greatest value that stands behind the first i places; for a possible value m above 0, the next below it is that of m - 1.
+pub fn peak_at(t: &[u16; 4096], i: usize) -> usize
+    requires { ⌜ i ≤ limit ⌝ }
+    ensures { λ r. ⌜ r ≡ peak (at (now (t .entry))) i ⌝ }
+{
+    if i == 0 { 0 } else { echo(t, i) + 1 }
 }
 
 // A value below b on its chain from which a walk to m goes on as from the echo of b. Where all echoes of a stretch lie at the same distance below their

@@ -49,7 +49,7 @@ fn published() {
     let mut n = 1;
     while n <= 10 {
         show::word(b"published");
-        show::number(listing::published(n));
+        show::number(counting::published(n));
         show::counted(corridor::count(26, n));
         show::end();
         n += 1;

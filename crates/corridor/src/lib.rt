@@ -147,7 +147,7 @@ pub fn count(a: usize, n: usize) -> Counted
             count: 0,
         };
     }
-    let k = listing::count(a, n);
+    let k = counting::count(a, n);
     Counted {
         number: size.number,
         place: size.place,

@@ -16,7 +16,7 @@ use Rattle.arrays.specs.Steps.{Passes, Sound, peak}
 use Rattle.arrays.proofs.Rules.{possible-above, possible-zero, possible-suc, possible-range, small-at, weight-open, weight-done, weighed-more, sound-at, sound-small, sound-part, passes-sound, echo-possible, walk-top, walk-hit, walk-on, peak-most}
 use Rattle.arrays.proofs.Reasons.{above}
 use Rattle.listing.specs.Values.{cover, Seeks, Lower, LeastValue}
-use Rattle.listing.proofs.Counting.{value-most, value-above, next-value, gap}
+use Rattle.listing.proofs.Values.{value-most, value-above, next-value, gap}
 
 cover-zero : (E : ℕ → ℕ) (p : ℕ) → cover E p 0 ≡ p
 unfolding cover

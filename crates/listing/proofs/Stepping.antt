@@ -25,7 +25,7 @@ use Rattle.listing.specs.Values.{Seeks, Lower, LeastValue, repeated, Low
 use Rattle.listing.proofs.Steps.{first-steps, last-steps, next-steps}
 use Rattle.listing.proofs.Standing.{least-first, least-next, after-stands}
 use Rattle.listing.proofs.Few.{only-peak}
-use Rattle.listing.proofs.Counting.{peak-possible, kept-none, placed-weighed, placed-passes, take-placed}
+use Rattle.listing.proofs.Values.{peak-possible, kept-none, placed-weighed, placed-passes, take-placed}
 use Rattle.listing.proofs.Covers.{lower-least}
 
 -- `repeats`

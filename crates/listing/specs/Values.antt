@@ -2,34 +2,21 @@
 use mathlib.Core.Path.{_≡_}
 use mathlib.Core.Bool.{Bool, true, false, cond}
 use mathlib.Core.List.{List}
-use Prim.Native.Nat.{ℕ, zero, suc, _+_, _-_, _≤_, _<_}
+use Prim.Native.Nat.{ℕ, suc, _+_, _-_, _≤_, _<_}
 use lib.Dec.{ltb, eqb}
 use lib.ListN.{length, take}
 use Rattle.words.specs.Lists.{both, at, placed}
 use Rattle.words.specs.Rows.{down}
 use Rattle.words.specs.Numbers.{DONE, limit}
 use Rattle.words.specs.Stand.{possible, weight, weighed}
-use Rattle.words.specs.Listing.{more, countFrom, Next, StandsAfter}
+use Rattle.words.specs.Listing.{Next, StandsAfter}
 use Rattle.words.proofs.Lists.{In}
 use Rattle.arrays.specs.Steps.{Passes, Sound, Possible, peak}
-
--- the sum, over the values below k that are accepted behind p, of the counts of p with that value behind it
-unfoldable pub tried : (List ℕ → ℕ → Bool) → ℕ → List ℕ → ℕ → ℕ
-tried ok r p zero = 0
-tried ok r p (suc k) = tried ok r p k + cond (ok p k) (countFrom ok r (more p k)) 0
 
 -- the table u has the first i places of the table t
 pub record Kept (t u : List ℕ) (i : ℕ) : Type 0 where
   pub long : length u ≡ limit
   pub same : take i u ≡ take i t
-
--- what trying the value m behind the first i places of the table t asks, in counting arrays of n places
-pub record Tries (A : ℕ) (t : List ℕ) (i n m : ℕ) : Type 0 where
-  pub within : i < n
-  pub most : n ≤ 20
-  pub long : length t ≡ limit
-  pub passes : Passes A (at t) i
-  pub value : Possible (at t) i m
 
 -- the open value that the possible value p is, or is hidden behind, where the echo of the place before is b: up the chain from p, each possible value
 -- whose echo is what has been reached takes its place

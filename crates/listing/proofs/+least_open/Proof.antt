@@ -8,7 +8,7 @@ use Rattle.listing.proofs.least_open.Reads as least-open
 use Rattle.listing.proofs.least_open.Kinds as least-open-kinds
 use Rattle.listing.proofs.+least_open.Lts-least_open as least-open-lts
 use Rattle.listing.proofs.cover.Reads as cover-reads
-use Rattle.listing.proofs.peak_at.Reads as peak-at-reads
+use Rattle.arrays.proofs.peak_at.Reads as peak-at-reads
 use Rattle.arrays.proofs.echo.Reads as echo-reads
 use Rattle.listing.proofs.+least_open.{statement}
 use Rattle.listing.proofs.+least_open.Tie.{close}

@@ -1,9 +1,9 @@
 -- `count_values`: one lemma of `Counting` for each way out. Assumes nothing.
 use borrow.Author.Needs.{needs}
 use Rattle.arrays.proofs.Behind.{behind-in, behind-sound}
-use Rattle.listing.proofs.Counting.{values-none, values-more, values-all}
-use Rattle.listing.proofs.count_values.Statement.{statement}
-use Rattle.listing.proofs.count_values.Tie as tie
+use Rattle.counting.proofs.Counting.{values-none, values-more, values-all}
+use Rattle.counting.proofs.count_values.Statement.{statement}
+use Rattle.counting.proofs.count_values.Tie as tie
 
 returns : tie.Need-returns
 returns c = search (needs, values-none)

@@ -1,44 +1,34 @@
 -- Counting in the code's terms: the values at a place, tried from the greatest down the chain, in one table. Assumes nothing.
 use mathlib.Core.Path.{_≡_, refl, sym, ap, subst, _∙_}
 use mathlib.Core.Bool.{Bool, true, false}
-use mathlib.Core.Logic.{_⊎_, inl, inr}
+use mathlib.Core.Logic.{inl, inr}
 use mathlib.Core.List.{List, []}
 use Prim.Native.Nat.{ℕ, zero, suc, _+_, _-_, _*_, _≤_, _<_}
 use native.Mathlib.Omega.{arith}
-use native.Mathlib.Numerals.{add-one, sub-one}
+use native.Mathlib.Numerals.{add-one}
 use lib.ListN.{length, take}
-use lib.Seq.{length-take-le, take-suc-set, take-take, take-set-le}
+use lib.Seq.{length-take-le, take-suc-set, take-take}
 use mir.Syntax.{w64}
 use mir.Val.{Fits}
 use borrow.Author.Tests.{ne-eqb}
 use Rattle.words.specs.Lists.{each, keep, sum, run, at, placed}
-use Rattle.words.specs.Rows.{Small, Alike}
 use Rattle.words.specs.Numbers.{DONE, limit}
-use Rattle.words.specs.Stand.{possible, opens, weighed}
+use Rattle.words.specs.Stand.{opens, weighed}
 use Rattle.words.specs.Listing.{more, values, countFrom, standing, count}
-use Rattle.words.proofs.Lists.{which, either, same?, In, there}
-use Rattle.words.proofs.Places.{placed-same, placed-other}
-use Rattle.words.proofs.Rows.{alike-part, alike-take, alike-along}
+use Rattle.words.proofs.Lists.{which, either, same?, In}
+use Rattle.words.proofs.Rows.{alike-take, alike-along}
 use Rattle.arrays.specs.Steps.{Passes, Possible, peak}
-use Rattle.arrays.proofs.Rules.{small-at, possible-range, possible-suc, possible-top, possible-part, possible-below, weighed-done, passes-sound, passes-part, sound-small, peak-low, peak-most, passes-suc}
+use Rattle.arrays.proofs.Rules.{small-at, weighed-done, passes-sound, sound-small, peak-low, peak-most}
 use Rattle.arrays.proofs.Reasons.{above}
-use Rattle.arrays.proofs.Alike.{weighed-alike, passes-alike, opens-alike, behind-alike}
-use Rattle.listing.specs.Values.{tried, Tries, Kept}
+use Rattle.arrays.proofs.Alike.{passes-alike, opens-alike, behind-alike}
+use Rattle.listing.specs.Values.{Kept}
 use Rattle.listing.proofs.Sizes.{count-last, count-fits}
-use Rattle.listing.proofs.Few.{values-first, values-room, values-full}
 use Rattle.listing.proofs.Peak.{weighed-take, standing-in}
+use Rattle.listing.proofs.Few.{values-first, values-room, values-full}
+use Rattle.listing.proofs.Values.{placed-passes, peak-possible, value-most, value-above, next-value, gap, kept-none, take-placed}
+use Rattle.counting.specs.Trying.{tried, Tries}
 
--- one place written
-pub placed-alike : (e : List ℕ) (i m : ℕ) → Alike (at e) (at (placed e (suc i) m)) i
-placed-alike e i m = record { same = λ k h. sym (placed-other e (suc i) m (suc k) (λ z. omega arith)) }
-
-pub placed-weighed : (A : ℕ) (e : List ℕ) (i m k v : ℕ) → k ≤ i → Passes A (at e) i → weighed A (at (placed e (suc i) m)) k v ≡ weighed A (at e) k v
-placed-weighed A e i m k v l p = sym (weighed-alike A k v (alike-part k l (placed-alike e i m)) (sound-small k (passes-sound (passes-part k l p))))
-
-pub placed-passes : (A : ℕ) (e : List ℕ) (i m : ℕ) → i < length e → Passes A (at e) i → weighed A (at e) i m ≡ DONE → Passes A (at (placed e (suc i) m)) (suc i)
-placed-passes A e i m h p w = passes-suc i (passes-alike (placed-alike e i m) p)
-    (rw (placed-same e (suc i) m (omega arith) h) (placed-weighed A e i m i m (omega arith) p ∙ w))
-
+-- one place written: the prefix with one value more
 placed-more : (e : List ℕ) (i m : ℕ) → i < length e → take (i + 1) (placed e (i + 1) m) ≡ more (take i e) m
 unfolding more placed
 placed-more e i m h = rw add-one (take-suc-set e i m h)
@@ -111,55 +101,11 @@ module _ (ok : List ℕ → ℕ → Bool) (r : ℕ) (p : List ℕ) where
   tried-most : (k : ℕ) → k ≤ suc (length p) → tried ok r p k ≤ countFrom ok (suc r) p
   tried-most k l = let z : k + (suc (length p) - k) ≡ suc (length p) = omega arith in rw count-tried (rw z at (tried-up k (suc (length p) - k)))
 
--- a possible value and the next below it, behind the first i places
-module _ {A : ℕ} {E : ℕ → ℕ} {i : ℕ} (passes : Passes A E i) where
-  small : Small E i
-  small = sound-small i (passes-sound passes)
-
-  pub peak-possible : Possible E i (peak E i)
-  unfolding peak Possible
-  peak-possible = go i small
-    where
-      go : (i : ℕ) → Small E i → (peak E i ≡ 0) ⊎ ((0 < i) × In (peak E i) (possible E (E i)))
-      go zero s = inl refl
-      go (suc i) s = inr (omega arith, possible-top s (E (suc i)) (omega (arith, s .below i (omega arith))))
-
-  start-low : 0 < i → E i < i
-  start-low l = small-at small i l (omega arith)
-
-  pub value-most : (m : ℕ) → Possible E i m → m ≤ i
-  value-most m h = either (same? m 0)
-      (λ z. omega arith)
-      (λ d. let (l, j) = above E i m (omega arith) h in omega (arith, start-low l, possible-range small (E i) (omega (arith, start-low l)) m j))
-
-  pub value-above : (m : ℕ) → Possible E i m → 0 < m → peak E (m - 1) < m
-  value-above m h l = omega (arith, peak-low (m - 1) (passes-part (m - 1) (omega (arith, value-most m h)) passes))
-
-  next-at : (m : ℕ) → m ≤ i → 0 < i → In m (possible E (E i)) → Possible E i (peak E (m - 1))
-  unfolding peak Possible
-  next-at zero k l j = inl refl
-  next-at (suc zero) k l j = inl refl
-  next-at (suc (suc c)) k l j = rw sub-one (inr (
-    l,
-    possible-part small (suc c) (E i) (omega (arith, start-low l)) j (suc (E (suc c)))
-        (rw (possible-suc small c (omega arith)) (there (possible-top small (E (suc c)) (omega (arith, small .below c (omega arith)))))),
-  ))
-
-  pub next-value : (m : ℕ) → Possible E i m → 0 < m → Possible E i (peak E (m - 1))
-  next-value m h q = let (l, j) = above E i m q h in next-at m (value-most m h) l j
-
-  pub gap : (m j : ℕ) → 0 < i → m ≤ i → In m (possible E (E i)) → In j (possible E (E i)) → j < m → j ≤ peak E (m - 1)
-  unfolding peak
-  gap zero j l k q h z = absurd (omega arith)
-  gap (suc zero) j l k q h z = absurd (omega (arith, possible-range small (E i) (omega (arith, start-low l)) j h))
-  gap (suc (suc c)) j l k q h z = rw sub-one (possible-range small (E (suc c)) (omega (arith, small .below c (omega arith))) j
-      (possible-below small (suc c) (E i) (omega (arith, start-low l)) q j h (omega arith)) .1)
-
-  -- no value stands between a possible one and the next
-  value-gap : (m j : ℕ) → Possible E i m → peak E (m - 1) < j → j < m → weighed A E i j ≡ DONE → ⊥
-  value-gap m j h a b w = let (l, q) = above E i m (omega arith) h in either (weighed-done A E i j w)
-      (λ e. omega arith)
-      (λ r. omega (arith, gap m j l (value-most m h) q (r .1) b))
+-- no value stands between a possible one and the next
+value-gap : {A : ℕ} {E : ℕ → ℕ} {i : ℕ} → Passes A E i → (m j : ℕ) → Possible E i m → peak E (m - 1) < j → j < m → weighed A E i j ≡ DONE → ⊥
+value-gap {A} {E} {i} passes m j h a b w = let (l, q) = above E i m (omega arith) h in either (weighed-done A E i j w)
+    (λ e. omega arith)
+    (λ r. omega (arith, gap passes m j l (value-most passes m h) q (r .1) b))
 
 -- the first i places of t stand
 module _ (A : ℕ) (t : List ℕ) (i n : ℕ) (long : length t ≡ limit) (most : n ≤ 20) (passes : Passes A (at t) i) where
@@ -197,15 +143,8 @@ module _ (A : ℕ) (t : List ℕ) (i n : ℕ) (long : length t ≡ limit) (most 
           (λ m a b. no-value m (omega arith) (λ w. omega (arith, peak-most i m passes w)))))
 
 -- the table keeps the first i places, whatever is written behind them
-pub kept-none : (t : List ℕ) (i : ℕ) → length t ≡ limit → Kept t t i
-kept-none t i l = record { long = l; same = refl }
-
 pub kept-on : (t u x : List ℕ) (i : ℕ) → Kept t u i → Kept u x i → Kept t x i
 kept-on t u x i k h = record { long = h .long; same = h .same ∙ k .same }
-
-pub take-placed : (i k v : ℕ) (t : List ℕ) → i ≤ k → take i (placed t (suc k) v) ≡ take i t
-unfolding placed
-take-placed i k v t l = take-set-le i t k v l
 
 pub kept-placed : (t x u : List ℕ) (i m : ℕ) → x ≡ placed t (i + 1) m → Kept x u (i + 1) → Kept t u i
 kept-placed t x u i m q h = record {

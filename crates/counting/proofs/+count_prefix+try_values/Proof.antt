@@ -1,22 +1,23 @@
 -- The cycle of calls {count_prefix, try_values}: one lemma of `Counting` for each way out. What falls: the rest of the length, then the value.
 -- Assumes nothing.
 use borrow.Author.Needs.{needs}
-use Rattle.listing.proofs.Counting.{count-full, count-near, open-falls, open-tries, count-open, kept-none, kept-on, kept-placed, tries-small, tried-passes, next-room, next-falls, next-tries, yes-last, yes-more, no-last, no-more, sum-fits}
+use Rattle.listing.proofs.Values.{kept-none}
+use Rattle.counting.proofs.Counting.{count-full, count-near, open-falls, open-tries, count-open, kept-on, kept-placed, tries-small, tried-passes, next-room, next-falls, next-tries, yes-last, yes-more, no-last, no-more, sum-fits}
 use Prim.Native.Nat.{ℕ, _+_, _-_, _*_, _<_}
 use borrow.Fn.Kinds.{In}
 use borrow.Fn.PlainCycle.{Measures, is, falls, and}
-use Rattle.listing.proofs.count_prefix.Reads as count-prefix
-use Rattle.listing.proofs.count_prefix.Kinds as count-prefix-kinds
-use Rattle.listing.proofs.+count_prefix+try_values.Lts-count_prefix as count-prefix-lts
-use Rattle.listing.proofs.try_values.Reads as try-values
-use Rattle.listing.proofs.try_values.Kinds as try-values-kinds
-use Rattle.listing.proofs.+count_prefix+try_values.Lts-try_values as try-values-lts
+use Rattle.counting.proofs.count_prefix.Reads as count-prefix
+use Rattle.counting.proofs.count_prefix.Kinds as count-prefix-kinds
+use Rattle.counting.proofs.+count_prefix+try_values.Lts-count_prefix as count-prefix-lts
+use Rattle.counting.proofs.try_values.Reads as try-values
+use Rattle.counting.proofs.try_values.Kinds as try-values-kinds
+use Rattle.counting.proofs.+count_prefix+try_values.Lts-try_values as try-values-lts
 use Rattle.arrays.proofs.number_of.Reads as number-of-reads
-use Rattle.listing.proofs.count_values.Reads as count-values-reads
-use Rattle.listing.proofs.peak_at.Reads as peak-at-reads
+use Rattle.counting.proofs.count_values.Reads as count-values-reads
+use Rattle.arrays.proofs.peak_at.Reads as peak-at-reads
 use Rattle.rows.proofs.put_echo.Reads as put-echo-reads
-use Rattle.listing.proofs.+count_prefix+try_values.{statement}
-use Rattle.listing.proofs.+count_prefix+try_values.Tie.{close}
+use Rattle.counting.proofs.+count_prefix+try_values.{statement}
+use Rattle.counting.proofs.+count_prefix+try_values.Tie.{close}
 
 abbrev μ-count-prefix : Measures 1 count-prefix-kinds.ps ℕ
 μ-count-prefix κs a = (a .1 .1 .1 .0 - a .1 .1 .0) * 32 + 31

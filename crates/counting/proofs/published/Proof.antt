@@ -1,8 +1,8 @@
--- `listing::published`: the table in the code is the published list. Assumes nothing.
+-- `counting::published`: the table in the code is the published list. Assumes nothing.
 use borrow.Author.Needs.{needs}
 use Rattle.words.proofs.Places.{index-at}
-use Rattle.listing.proofs.published.Statement.{statement}
-use Rattle.listing.proofs.published.Tie as tie
+use Rattle.counting.proofs.published.Statement.{statement}
+use Rattle.counting.proofs.published.Tie as tie
 
 sub-result : tie.Need-sub-result
 sub-result c = search needs

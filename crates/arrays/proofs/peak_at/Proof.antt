@@ -1,8 +1,8 @@
 -- `peak_at`: one law of the peak for each way out. Assumes nothing.
 use borrow.Author.Needs.{needs}
 use Rattle.arrays.proofs.Rules.{peak-none, peak-some}
-use Rattle.listing.proofs.peak_at.Statement.{statement}
-use Rattle.listing.proofs.peak_at.Tie as tie
+use Rattle.arrays.proofs.peak_at.Statement.{statement}
+use Rattle.arrays.proofs.peak_at.Tie as tie
 
 echo-requires : tie.Need-echo-requires
 echo-requires c κs = search needs

@@ -1,8 +1,8 @@
 -- `count`: the count of the empty prefix. Assumes nothing.
 use borrow.Author.Needs.{needs}
-use Rattle.listing.proofs.Counting.{count-whole}
-use Rattle.listing.proofs.count.Statement.{statement}
-use Rattle.listing.proofs.count.Tie as tie
+use Rattle.counting.proofs.Counting.{count-whole}
+use Rattle.counting.proofs.count.Statement.{statement}
+use Rattle.counting.proofs.count.Tie as tie
 
 count-prefix-requires : tie.Need-count-prefix-requires
 count-prefix-requires c κs = search needs
