@@ -1,7 +1,7 @@
 -- What the entries need of their checks, in the code's own terms. Assumes nothing.
 use mathlib.Core.Path.{_≡_, refl, sym, ap, subst, _∙_}
 use mathlib.Core.List.{List, [], _∷_, _++_}
-use Prim.Native.Nat.{ℕ, _-_, _≤_, _<_}
+use Prim.Native.Nat.{ℕ, _-_, _≤_}
 use native.Mathlib.Omega.{arith}
 use lib.Dec.{leb}
 use lib.ListN.{length, take, drop, length-drop}
@@ -13,13 +13,9 @@ use Rattle.words.specs.Sheet.{sheet}
 use Rattle.words.specs.Listing.{First}
 use Rattle.words.specs.Outcomes.{given, kept, sheet-outcome, guess-outcome, Rebuilds, Starts, Steps, refuses, starts}
 use Rattle.words.specs.Strips.{closed, closing, joint, joining}
-use Rattle.words.proofs.Checks.{refusal-stop, refusal-last, refusal-clear, long-clear, matching-clear, sizes-clear, lent-clear}
+use Rattle.words.proofs.Checks.{cleared, refusal-stop, refusal-last, refusal-clear, long-clear, matching-clear, sizes-clear, lent-clear}
 use Rattle.sheets.specs.Written.{written}
 use Rattle.sheets.proofs.Outcome.{sheet-written}
-
--- a check whose number is 0 refuses nothing
-pub cleared : (n p : ℕ) (c : ℕ × ℕ) → (n, p) ≡ c → n ≡ DONE → c .0 ≡ DONE
-cleared n p c e z = ap (λ (r : ℕ × ℕ). r .0) (sym e) ∙ z
 
 -- a row that no check refuses is within the limit, and a slice beside it has its length
 module _ (n p A : ℕ) (x : List ℕ) (done : n ≡ DONE) where

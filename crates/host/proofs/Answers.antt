@@ -11,7 +11,7 @@ use Rattle.words.specs.Numbers.{DONE, limit, matching, refusal, sizes}
 use Rattle.words.specs.Stand.{verdict}
 use Rattle.words.specs.Outcomes.{decoded, judge-answer, host-judge-outcome}
 use Rattle.words.proofs.Lists.{either, same?}
-use Rattle.words.proofs.Checks.{refusal-stop, refusal-last, refusal-clear, sizes-clear, matching-clear}
+use Rattle.words.proofs.Checks.{cleared, refusal-stop, refusal-last, refusal-clear, sizes-clear, matching-clear}
 use Rattle.arrays.specs.Steps.{Holds}
 use Rattle.judging.specs.Judging.{Judges}
 use Rattle.host.proofs.Decoding.{decoded-long}
@@ -19,7 +19,7 @@ use Rattle.host.proofs.Packing.{judge-bounds}
 
 -- 2n is a number of bytes where n is within the limit
 pub double-fits : (A n w q : ℕ) → (w, q) ≡ sizes A n → w ≡ DONE → Fits w64 (2 * n)
-double-fits A n w q e z = record { fits = omega (arith, sizes-clear A n (ap (λ (r : ℕ × ℕ). r .0) (sym e) ∙ z) .2) }
+double-fits A n w q e z = record { fits = omega (arith, sizes-clear A n (cleared w q (sizes A n) e z) .2) }
 
 -- two checks, then the verdict
 nested : (c d v : ℕ × ℕ) → refusal (refusal (c ∷ d ∷ []) ∷ v ∷ []) ≡ refusal (c ∷ d ∷ v ∷ [])
@@ -51,7 +51,7 @@ module _ (A n w q : ℕ) (l : List ℕ) (checked : (w, q) ≡ refusal (sizes A n
   module _ (done : w ≡ DONE) where
     clear : (sizes A n .0 ≡ DONE) × (matching (2 * n) (length l) .0 ≡ DONE)
     unfolding refusal
-    clear = refusal-clear (sizes A n) (matching (2 * n) (length l)) [] (ap (λ (r : ℕ × ℕ). r .0) (sym checked) ∙ done)
+    clear = refusal-clear (sizes A n) (matching (2 * n) (length l)) [] (cleared w q (refusal (sizes A n ∷ matching (2 * n) (length l) ∷ [])) checked done)
 
     pub judge-within : n ≤ limit
     judge-within = sizes-clear A n (clear .0) .2

@@ -34,6 +34,10 @@ pub named-place : (n p : ℕ) → (p ≡ 0 → ⊥) → (n, p) ≡ named n p
 unfolding named
 named-place n p h = rw (ne-eqb p 0 h)
 
+-- a check whose number is 0 refuses nothing
+pub cleared : (n p : ℕ) (c : ℕ × ℕ) → (n, p) ≡ c → n ≡ DONE → c .0 ≡ DONE
+cleared n p c e z = ap (λ (r : ℕ × ℕ). r .0) (sym e) ∙ z
+
 -- the first check that is not done answers; one that is done hands on to those behind it
 pub refusal-stop : (c d r : ℕ × ℕ) (l : List (ℕ × ℕ)) → r ≡ c → (r .0 ≡ DONE → ⊥) → r ≡ refusal (c ∷ d ∷ l)
 unfolding refusal

@@ -1,6 +1,7 @@
 -- `corridor::first`. Assumes nothing.
 use borrow.Author.Needs.{needs}
-use Rattle.corridor.proofs.Entries.{cleared, first-refuses, first-starts}
+use Rattle.words.proofs.Checks.{cleared}
+use Rattle.corridor.proofs.Entries.{first-refuses, first-starts}
 use Rattle.corridor.proofs.first.Statement.{statement}
 use Rattle.corridor.proofs.first.Tie as tie
 

@@ -1,6 +1,7 @@
 -- `corridor::next`. Assumes nothing.
 use borrow.Author.Needs.{needs}
-use Rattle.corridor.proofs.Entries.{cleared, next-refuses}
+use Rattle.words.proofs.Checks.{cleared}
+use Rattle.corridor.proofs.Entries.{next-refuses}
 use Rattle.corridor.proofs.next.Statement.{statement}
 use Rattle.corridor.proofs.next.Tie as tie
 

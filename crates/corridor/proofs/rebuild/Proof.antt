@@ -1,6 +1,7 @@
 -- `corridor::rebuild`. Assumes nothing.
 use borrow.Author.Needs.{needs}
-use Rattle.corridor.proofs.Entries.{cleared, rebuild-refuses}
+use Rattle.words.proofs.Checks.{cleared}
+use Rattle.corridor.proofs.Entries.{rebuild-refuses}
 use Rattle.corridor.proofs.rebuild.Statement.{statement}
 use Rattle.corridor.proofs.rebuild.Tie as tie
 
