@@ -1,4 +1,4 @@
--- Between lists and places: a row's cards, letters and echoes, the dictionary, and the verdict, each by place. Assumes nothing.
+-- Between lists and places: a row's cards, letters and echoes, and the verdict, each by place. Assumes nothing.
 use mathlib.Core.Path.{_≡_, refl, sym, ap, _∙_}
 use mathlib.Core.Bool.{true, false}
 use mathlib.Core.Logic.{_⊎_, inl, inr}
@@ -13,12 +13,10 @@ use Rattle.words.specs.Lists.{places, at}
 use Rattle.words.specs.Rows.{card, echo, echoes, Alike}
 use Rattle.words.specs.Numbers.{DONE, firstLetter, letter, over}
 use Rattle.words.specs.Stand.{weighed, numberAt, fails, firstBad, verdict}
-use Rattle.words.specs.Least.{before}
 use Rattle.words.proofs.Lists.{which, either, same?, both-out, every-in, every-out}
-use Rattle.words.proofs.Order.{before-head, before-tail, before-nil, before-asym}
 use Rattle.words.proofs.Places.{each-place, each-only, places-length, places-in, places-out, first-places}
 use Rattle.words.proofs.Checks.{letter-in}
-use Rattle.arrays.specs.Steps.{Passes, Inside, UpTo, equals, lower, Bad}
+use Rattle.arrays.specs.Steps.{Passes, Inside, Bad}
 use Rattle.arrays.proofs.Cards.{inside-at}
 
 -- the cards of a row with one card behind it, and of a part of a row
@@ -63,19 +61,6 @@ echoes-alike x e h =
 pub alike-echoes : (x e : List ℕ) → length x ≡ length e → Alike (echo (card x)) (at e) (length e) → echoes x ≡ e
 unfolding echoes
 alike-echoes x e l a = sym (each-only (echo (card x)) (length x) e (sym l) (λ i h. sym (a .same i (omega arith))))
-
--- the dictionary: nothing that x is up to stands before x
-alike-rest : (a b : ℕ) (x z : List ℕ) (n : ℕ) → Alike (card (a ∷ x)) (card (b ∷ z)) (suc n) → (a ≡ b) × Alike (card x) (card z) n
-unfolding card at
-alike-rest a b x z n s = (s .same 0 (omega arith), record { same = λ i h. s .same (suc i) (omega arith) })
-
-pub up-to : (x z : List ℕ) → length x ≡ length z → UpTo (card x) (card z) (length x) → before z x ≡ false
-unfolding card at
-up-to [] z l u = before-nil z
-up-to (a ∷ x) [] l u = absurd (omega arith)
-up-to (a ∷ x) (b ∷ z) l (equals s) = let (e, r) = alike-rest a b x z (length x) s in before-tail b a z x (sym e) ∙ up-to x z (omega arith) (equals r)
-up-to (a ∷ x) (b ∷ z) l (lower zero h s q) = before-asym (a ∷ x) (b ∷ z) (before-head a b x z q)
-up-to (a ∷ x) (b ∷ z) l (lower (suc k) h s q) = let (e, r) = alike-rest a b x z k s in before-tail b a z x (sym e) ∙ up-to x z (omega arith) (lower k (omega arith) r q)
 
 -- the verdict: every place passes, or it names the first that does not
 fails-not : (A : ℕ) (E : ℕ → ℕ) (i : ℕ) → fails A E (suc i) ≡ false → weighed A E i (E (suc i)) ≡ DONE

@@ -13,34 +13,29 @@ use Rattle.words.specs.Numbers.{DONE, IMPOSSIBLE, HIDDEN, FULL}
 use Rattle.words.specs.Stand.{RowOf, Stands, opens, weighed, verdict}
 use Rattle.words.specs.Least.{before, LeastRow, nextCard, rebuilt}
 use Rattle.words.proofs.Lists.{either, same?}
-use Rattle.arrays.specs.Steps.{Passes, Inside, UpTo, equals, lower, Echoing, Breaks}
+use Rattle.words.proofs.Order.{lowest-least}
+use Rattle.arrays.specs.Steps.{Passes, Inside, Echoing, Breaks}
 use Rattle.arrays.proofs.Rules.{passes-part}
 use Rattle.arrays.proofs.Alike.{passes-alike}
-use Rattle.words.proofs.Rows.{alike-refl, alike-sym, alike-take}
+use Rattle.words.proofs.Rows.{alike-refl, alike-sym, alike-take, alike-along}
 use Rattle.arrays.proofs.Cards.{echo-echoing, echoing-part, echoing-alike, echoing-unique, row-passes}
 use Rattle.arrays.proofs.Growth.{grow, grow-inside, lowest}
 use Rattle.arrays.proofs.Reasons.{reason-in, reason-refused, reason-full}
-use Rattle.arrays.proofs.Places.{card-before, card-last, over-inside, inside-over, echoes-alike, alike-echoes, up-to, judged, verdict-passes, passes-verdict}
+use Rattle.arrays.proofs.Places.{card-before, card-last, over-inside, inside-over, echoes-alike, alike-echoes, judged, verdict-passes, passes-verdict}
 
 -- what is known of the first n cards of the rebuilt row
 record Built (A : ℕ) (E : ℕ → ℕ) (n : ℕ) (x : List ℕ) : Type 0 where
   long : length x ≡ n
   has : Echoing (card x) E n
   inside : Inside A (card x) n
-  least : (Z : ℕ → ℕ) → Inside A Z n → Echoing Z E n → UpTo (card x) Z n
-
-least-more : {X Y Z : ℕ → ℕ} (n : ℕ) → Alike X Y n → (Alike X Z n → Y (suc n) ≤ Z (suc n)) → UpTo X Z n → UpTo Y Z (suc n)
-least-more {X} {Y} {Z} n s l (equals t) = either (same? (Y (suc n)) (Z (suc n)))
-    (λ e. equals (record { same = λ i h. either (same? i n) (λ z. subst (λ (j : ℕ). Y (suc j) ≡ Z (suc j)) (sym z) e) (λ d. sym (s .same i (omega arith)) ∙ t .same i (omega arith)) }))
-    (λ d. lower n (omega arith) (record { same = λ i h. sym (s .same i h) ∙ t .same i h }) (omega (arith, l t)))
-least-more n s l (lower k h t q) = lower k (omega arith) (record { same = λ i g. sym (s .same i (omega arith)) ∙ t .same i g }) (rw (← s .same k h) q)
+  low : (Z : ℕ → ℕ) → Inside A Z n → Echoing Z E n → (k : ℕ) → k < n → Alike (card x) Z k → card x (suc k) ≤ Z (suc k)
 
 built-none : (A : ℕ) (E : ℕ → ℕ) → Built A E 0 []
 built-none A E = record {
   long = refl;
   has = record { step = λ i h. absurd (omega arith) };
   inside = record { letter = λ i h. absurd (omega arith) };
-  least = λ Z i e. equals (record { same = λ k h. absurd (omega arith) });
+  low = λ Z i e k h. absurd (omega arith);
 }
 
 built-more : {A : ℕ} {E : ℕ → ℕ} (n : ℕ) (x : List ℕ) → 0 < A → weighed A E n (E (suc n)) ≡ DONE → Built A E n x
@@ -54,9 +49,11 @@ built-more {A} {E} n x p w b =
       long = omega (arith, length-append x (c ∷ []), b .long);
       has = grow A n same new (b .has) w;
       inside = grow-inside A n p same new (b .inside) (b .has) w;
-      least = λ Z i e. least-more n same
-          (λ s. rw new (lowest n s i e))
-          (b .least Z (record { letter = λ k h. i .letter k (omega arith) }) (echoing-part n (omega arith) e));
+      low = λ Z i e k h t. let u : Alike (card x) Z k = record { same = λ j l. same .same j (omega arith) ∙ t .same j l } in
+          either (same? k n)
+          (λ z. subst (λ (j : ℕ). card y (suc j) ≤ Z (suc j)) (sym z) (rw new (lowest n (subst (Alike (card x) Z) z u) i e)))
+          (λ d. rw (← same .same k (omega arith))
+          (b .low Z (record { letter = λ j l. i .letter j (omega arith) }) (echoing-part n (omega arith) e) k (omega arith) u));
     }
 
 built : {A : ℕ} {E : ℕ → ℕ} (n : ℕ) → 0 < A → Passes A E n → Built A E n (rebuilt E n)
@@ -92,12 +89,10 @@ module _ {A : ℕ} (pos : 0 < A) (e : List ℕ) (passes : Passes A (at e) (lengt
   passes-stands = record { row = rebuilt (at e) (length e); is = rebuilt-row }
 
   pub passes-least : LeastRow A e (rebuilt (at e) (length e))
-  unfolding LeastRow
-  passes-least = let x = rebuilt (at e) (length e) in record {
-    is = rebuilt-row;
-    none = λ z r. up-to x z (made .long ∙ sym (echoes-alike z e (r .has) .0))
-        (subst (λ (n : ℕ). UpTo (card x) (card z) n) (sym (made .long)) (made .least (card z) (row-inside r) (row-echoing r)));
-  }
+  unfolding LeastRow card at
+  passes-least = lowest-least (rebuilt (at e) (length e)) rebuilt-row
+      (λ z r. echoes-alike z e (r .has) .0 ∙ sym (made .long))
+      (record { least = λ z r l j a h s. made .low (card z) (row-inside r) (row-echoing r) j (omega (arith, made .long)) (alike-sym (alike-along z _ j s)) })
 
 -- the verdict is done exactly if the array stands
 pub stands-verdict : {A : ℕ} {e : List ℕ} → Stands A e → verdict A e ≡ (DONE, 0)

@@ -6,7 +6,6 @@ use mathlib.Core.List.{List}
 use Prim.Native.Nat.{ℕ, zero, suc, _+_, _-_, _≤_, _<_}
 use lib.ListN.{length, take}
 use Rattle.words.specs.Lists.{at}
-use Rattle.words.specs.Rows.{Alike}
 use Rattle.words.specs.Numbers.{DONE, IMPOSSIBLE, HIDDEN, FULL, firstLetter}
 use Rattle.words.specs.Stand.{Stands, possible, hidden, opens, weight, weighed, verdict}
 use Rattle.words.proofs.Lists.{In}
@@ -37,11 +36,6 @@ pub record Holds (t e : List ℕ) : Type 0 where
 -- the first n cards are of the A letters
 pub record Inside (A : ℕ) (X : ℕ → ℕ) (n : ℕ) : Type 0 where
   pub letter : (i : ℕ) → i < n → (firstLetter ≤ X (suc i)) × (X (suc i) < firstLetter + A)
-
--- X is Z on the first n places, or is below it at the first place that differs
-pub data UpTo (X Z : ℕ → ℕ) (n : ℕ) : Type 0 where
-  equals : Alike X Z n → UpTo X Z n
-  lower : (k : ℕ) → k < n → Alike X Z k → X (suc k) < Z (suc k) → UpTo X Z n
 
 -- place i + 1 of X has the echo that E says, where the places before it have: an echo above 0 is a possible value with the place's own card, and no
 -- possible value with that card is greater

@@ -17,9 +17,9 @@ use Rattle.arrays.specs.Steps.{Passes, peak}
 use Rattle.arrays.proofs.Rules.{weighed-first, passes-sound, passes-none, passes-suc, passes-part, sound-small, peak-low, peak-stands}
 use Rattle.arrays.proofs.Alike.{weighed-alike}
 use Rattle.arrays.proofs.Theorem.{stands-passes, passes-stands}
-use Rattle.listing.specs.Sets.{Completes, Highest, Lists, Visits}
+use Rattle.listing.specs.Sets.{Completes, Lists, Visits}
 use Rattle.words.proofs.Places.{run-long, run-getD}
-use Rattle.words.proofs.Order.{before-not, before-total, least-one}
+use Rattle.words.proofs.Order.{before-not, before-total, least-one, Highest}
 use Rattle.listing.proofs.Listing.{more-append, values-in, lists}
 use Rattle.listing.proofs.Sizes.{completes-more}
 use Rattle.listing.proofs.Steps.{last-steps}
@@ -94,10 +94,10 @@ module _ (A : ℕ) (pos : 0 < A) (n : ℕ) where
     where
       high : Highest (Stands A) (run 0 n) 0
       high = record {
-        most = λ z s j l b t. omega (
+        most = λ z s k j l b t. omega (
           arith,
           run-getD 0 n j (omega (arith, run-long 0 n)),
-          sound-small (length z) (passes-sound (stands-passes (s .is))) .below j (omega (arith, s .long)),
+          sound-small (length z) (passes-sound (stands-passes s)) .below j (omega arith),
         );
       }
 

@@ -14,13 +14,14 @@ use Rattle.words.specs.Numbers.{DONE, limit}
 use Rattle.words.specs.Stand.{Stands, weighed}
 use Rattle.words.specs.Listing.{First}
 use Rattle.words.proofs.Lists.{either, same?, both-left, both-out}
+use Rattle.words.proofs.Order.{Parts, Lowest, Highest}
 use Rattle.words.proofs.Places.{placed-long, placed-same, placed-other}
 use Rattle.words.proofs.Rows.{alike-take, alike-along}
 use Rattle.arrays.specs.Steps.{Passes, Sound, peak}
 use Rattle.arrays.proofs.Rules.{weighed-first, passes-sound, passes-part, sound-small, peak-low, peak-stands, peak-most}
 use Rattle.arrays.proofs.Alike.{weighed-alike, passes-alike}
 use Rattle.arrays.proofs.Theorem.{stands-passes, passes-stands}
-use Rattle.listing.specs.Sets.{Parts, Sized, Lowest, Highest}
+use Rattle.listing.specs.Sets.{Sized}
 use Rattle.listing.specs.Values.{Seeks, Lower, LeastValue, repeated, Lows, Filled, Highs, Turned, Raised, Stepped, stepped, ended}
 use Rattle.listing.proofs.Steps.{first-steps, last-steps, next-steps}
 use Rattle.listing.proofs.Standing.{least-first, least-next, after-stands}
@@ -134,27 +135,27 @@ module _ (A : ℕ) (t : List ℕ) (n : ℕ) (room : n ≤ limit) (whole : length
   array-stands pos p = passes-stands pos (take n t) (rw array-long (passes-alike (alike-take t n) p))
 
   -- a standing array that goes along with it for j places has behind them a value that stands there
-  member-weighed : (z : List ℕ) (j : ℕ) → Sized (Stands A) (length (take n t)) z → j < length (take n t) → take j z ≡ take j (take n t)
+  member-weighed : (z : List ℕ) (j : ℕ) → Stands A z → length z ≡ length (take n t) → j < length (take n t) → take j z ≡ take j (take n t)
       → weighed A (at t) j (getD z j 0) ≡ DONE
   unfolding at
-  member-weighed z j s h e =
-      let p = stands-passes (s .is) in
-      let l : j < length z = omega (arith, s .long) in
+  member-weighed z j s k h e =
+      let p = stands-passes s in
+      let l : j < length z = omega arith in
       sym (weighed-alike A j (getD z j 0) (alike-along z t j (e ∙ take-take j n t (omega (arith, array-long))))
       (sound-small j (passes-sound (passes-part j (omega arith) p)))) ∙ p .step j l
 
   array-lowest : (i : ℕ) → Lows A (at t) i n → Lowest (Stands A) (take n t) i
   unfolding at
   array-lowest i lows = record {
-    least = λ z s j a b e. let h : j < n = omega (arith, array-long) in rw (getD-take n t j 0 h)
-        (lows .least j a h (getD z j 0) (member-weighed z j s b e));
+    least = λ z s k j a b e. let h : j < n = omega (arith, array-long) in rw (getD-take n t j 0 h)
+        (lows .least j a h (getD z j 0) (member-weighed z j s k b e));
   }
 
   array-highest : (i : ℕ) → Passes A (at t) n → Highs (at t) n i → Highest (Stands A) (take n t) i
   unfolding at
   array-highest i p highs = record {
-    most = λ z s j a b e. let h : j < n = omega (arith, array-long) in rw (getD-take n t j 0 h)
-        (omega (arith, highs .high j a h, peak-most j (getD z j 0) (passes-part j (omega arith) p) (member-weighed z j s b e)));
+    most = λ z s k j a b e. let h : j < n = omega (arith, array-long) in rw (getD-take n t j 0 h)
+        (omega (arith, highs .high j a h, peak-most j (getD z j 0) (passes-part j (omega arith) p) (member-weighed z j s k b e)));
   }
 
 -- `first`
@@ -275,5 +276,5 @@ module _ (A : ℕ) (t : List ℕ) (n : ℕ) (room : n ≤ limit) (whole : length
         next-done = stepped refl (least-next A (take n t) (take n u) (next-steps (Stands A) (take n t) (take n u) (k - 1) sized parts
             (subst (λ (j : ℕ). Highest (Stands A) (take n t) j) (omega arith) highest)
             (array-lowest A u n room (filled .kept .long) (suc (k - 1)) (filled .lows))
-            (λ z s q g. rw is (raises .least (getD z (k - 1) 0) (omega (arith, was))
-            (member-weighed A t n room whole z (k - 1) s (omega (arith, old, turn-in)) q)))))
+            (λ z s l q g. rw is (raises .least (getD z (k - 1) 0) (omega (arith, was))
+            (member-weighed A t n room whole z (k - 1) s l (omega (arith, old, turn-in)) q)))))

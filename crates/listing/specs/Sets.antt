@@ -17,12 +17,6 @@ unfoldable pub spans : ℕ → ℕ → ℕ
 spans i zero = 1
 spans i (suc r) = suc i * spans (suc i) r
 
--- x and y part at index j, where x has the smaller number
-pub record Parts (x y : List ℕ) (j : ℕ) : Type 0 where
-  pub within : j < length x
-  pub same : take j x ≡ take j y
-  pub less : getD x j 0 < getD y j 0
-
 -- each array stands before those behind it, so that none comes twice
 unfoldable pub Rising : List (List ℕ) → Type 0
 Rising [] = Unit
@@ -43,13 +37,6 @@ pub record Lists (P : List ℕ → Type 0) (n : ℕ) (L : List (List ℕ)) : Typ
   pub only : (x : List ℕ) → Has x L → Sized P n x
   pub all : (x : List ℕ) → Sized P n x → Has x L
   pub rises : Rising L
-
--- from index i on, no array of P that goes along with f has a smaller number there; a greater one
-pub record Lowest (P : List ℕ → Type 0) (f : List ℕ) (i : ℕ) : Type 0 where
-  pub least : (z : List ℕ) → Sized P (length f) z → (j : ℕ) → i ≤ j → j < length f → take j z ≡ take j f → getD f j 0 ≤ getD z j 0
-
-pub record Highest (P : List ℕ → Type 0) (e : List ℕ) (i : ℕ) : Type 0 where
-  pub most : (z : List ℕ) → Sized P (length e) z → (j : ℕ) → i ≤ j → j < length e → take j z ≡ take j e → getD z j 0 ≤ getD e j 0
 
 -- a walk from x on that steps by R until it ends by E: T is what it visits
 pub data Trail (R : List ℕ → List ℕ → Type 0) (E : List ℕ → Type 0) : List ℕ → List (List ℕ) → Type 0 where
