@@ -15,7 +15,7 @@ use Rattle.words.specs.Numbers.{DONE, firstLetter, letter, over}
 use Rattle.words.specs.Stand.{weighed, numberAt, fails, firstBad, verdict}
 use Rattle.words.proofs.Lists.{which, either, same?, both-out, every-in, every-out}
 use Rattle.words.proofs.Places.{each-place, each-only, places-length, places-in, places-out, first-places}
-use Rattle.words.proofs.Checks.{letter-in}
+use Rattle.words.proofs.Checks.{cleared, letter-in}
 use Rattle.arrays.specs.Steps.{Passes, Inside, Bad}
 use Rattle.arrays.proofs.Cards.{inside-at}
 
@@ -100,4 +100,4 @@ verdict-bad A e i p h d = either (judged A e)
     (λ f. absurd (b .bad (p .step (b .behind) (omega (arith, ltb-false i (b .behind) f)))))))
 
 pub verdict-done : (A : ℕ) (e : List ℕ) (w p : ℕ) → (w, p) ≡ verdict A e → w ≡ DONE → verdict A e ≡ (DONE, 0)
-verdict-done A e w p v z = passes-verdict A e (verdict-passes A e (ap (λ (t : ℕ × ℕ). t .0) (sym v) ∙ z))
+verdict-done A e w p v z = passes-verdict A e (verdict-passes A e (cleared w p (verdict A e) v z))

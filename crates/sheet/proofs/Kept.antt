@@ -11,7 +11,7 @@ use Rattle.words.specs.Numbers.{DONE, LONG, ROOM, limit, alphabet, cards, unles
 use Rattle.words.specs.Outcomes.{given, kept, sheet-outcome}
 use Rattle.words.specs.Sheet.{sheet}
 use Rattle.words.proofs.Lists.{which, either, same?}
-use Rattle.words.proofs.Checks.{long-over, refusal-stop, sizes-clear}
+use Rattle.words.proofs.Checks.{cleared, long-over, refusal-stop, sizes-clear}
 use Rattle.corridor.proofs.Entries.{sheet-refused}
 use Rattle.lines.specs.Line.{lineOf, meaning}
 use Rattle.lines.specs.Taking.{Ready, Tells}
@@ -31,7 +31,7 @@ over A x old h = sheet-refused A x old (S .0) (S .1) (refusal-stop (sizes A (len
     long-row = ap (λ (c : ℕ × ℕ). refusal (alphabet A ∷ c ∷ [])) (long-over limit (length x) h)
 
     bad : S .0 ≡ DONE → ⊥
-    bad z = omega (arith, sizes-clear A (length x) (ap (λ (c : ℕ × ℕ). c .0) (sym long-row) ∙ z) .2)
+    bad z = omega (arith, sizes-clear A (length x) (cleared (S .0) (S .1) (sizes A (length x)) long-row z) .2)
 
 pub kept-outcome : (A n : ℕ) (x old : List ℕ) → limit < n → sheet-outcome A (take n x) old ≡ sheet-outcome A x old
 kept-outcome A n x old h = either (which (leb (length x) n))

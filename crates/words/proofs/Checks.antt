@@ -41,11 +41,11 @@ cleared n p c e z = ap (λ (r : ℕ × ℕ). r .0) (sym e) ∙ z
 -- the first check that is not done answers; one that is done hands on to those behind it
 pub refusal-stop : (c d r : ℕ × ℕ) (l : List (ℕ × ℕ)) → r ≡ c → (r .0 ≡ DONE → ⊥) → r ≡ refusal (c ∷ d ∷ l)
 unfolding refusal
-refusal-stop c d r l e n = e ∙ rw (ne-eqb (c .0) DONE (λ z. n (ap (λ (p : ℕ × ℕ). p .0) e ∙ z)))
+refusal-stop c d r l e n = e ∙ rw (ne-eqb (c .0) DONE (λ z. n (cleared (c .0) (c .1) r (sym e) z)))
 
 pub refusal-on : (c d r s : ℕ × ℕ) (l : List (ℕ × ℕ)) → r ≡ c → r .0 ≡ DONE → s ≡ refusal (d ∷ l) → s ≡ refusal (c ∷ d ∷ l)
 unfolding refusal
-refusal-on c d r s l e z q = q ∙ rw (eq-eqb (c .0) DONE (ap (λ (p : ℕ × ℕ). p .0) (sym e) ∙ z))
+refusal-on c d r s l e z q = q ∙ rw (eq-eqb (c .0) DONE (cleared (r .0) (r .1) c e z))
 
 pub refusal-last : (c d r s : ℕ × ℕ) → r ≡ c → r .0 ≡ DONE → s ≡ d → s ≡ refusal (c ∷ d ∷ [])
 unfolding refusal

@@ -1,4 +1,4 @@
--- Laws of dictionary order: where two lists part, and the least of a set, by place. Assumes nothing.
+-- Laws of dictionary order, of the least of a set, and of the index at which two lists part. Assumes nothing.
 use mathlib.Core.Path.{_≡_, refl, sym, _∙_}
 use mathlib.Core.Bool.{true, false}
 use mathlib.Core.Logic.{_⊎_, inl, inr}
