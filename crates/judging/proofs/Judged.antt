@@ -30,8 +30,8 @@ module _ {A : ℕ} (t : List ℕ) {i : ℕ} (passes : Passes A (at t) i) (n : �
     passes = λ z. p;
   }
 
-  pub judged-stuck : (w p q : ℕ) → Passed A (at t) i n w p q → (w ≡ DONE → ⊥) → Judges A t n w p
-  judged-stuck w p q s d = let (e, is) = s .stuck d in record {
+  pub judged-stuck : (w p : ℕ) → Passed A (at t) i n w p → (w ≡ DONE → ⊥) → Judges A t n w p
+  judged-stuck w p s d = let (e, is) = s .stuck d in record {
     says = rw (e, is ∙ same (omega (arith, s .further, s .within)))
         (sym (verdict-bad A (take n t) i (passes-alike (part (omega (arith, s .further, s .within))) passes) (omega (arith, long, s .further, s .within))
         (λ z. d (is ∙ same (omega (arith, s .further, s .within)) ∙ z))));

@@ -8,15 +8,13 @@ use native.Mathlib.Numerals.{add-one}
 use lib.Dec.{ltb, eqb}
 use lib.ListN.{getD}
 use borrow.Author.Tests.{ltb-true, ltb-false, eqb-true, not-false}
-use mir.Syntax.{w64}
-use mir.Val.{Fits}
 use Rattle.words.specs.Lists.{both, at}
 use Rattle.words.specs.Numbers.{DONE, limit}
 use Rattle.words.specs.Stand.{weighed}
 use Rattle.words.proofs.Lists.{which, either, same?, both-out}
 use Rattle.arrays.specs.Steps.{Passes, peak}
 use Rattle.judging.specs.Judging.{Climbs, Level, Passed}
-use Rattle.arrays.proofs.Rules.{passes-suc, peak-some, peak-low, peak-stands}
+use Rattle.arrays.proofs.Rules.{passes-suc, peak-low, peak-stands}
 
 -- the echoes of some places behind the first i, looked at together
 pub level-none : (E : ℕ → ℕ) (i top : ℕ) → Level E i 0 top true
@@ -30,8 +28,8 @@ level-more t {i} {k} {top} {s} l = record {
       (λ d. l .are a j (omega arith));
 }
 
-pub level-all : {E : ℕ → ℕ} {i k top : ℕ} {s : Bool} → Level E i k top s → 16 ≤ k → Level E i 16 top s
-level-all l h = record { are = λ z j g. l .are z j (omega arith) }
+pub level-all : {E : ℕ → ℕ} {i k top : ℕ} {s : Bool} → Level E i k top s → (c : ℕ) → c ≤ k → Level E i c top s
+level-all l c h = record { are = λ z j g. l .are z j (omega arith) }
 
 -- a run has come from place i to place j, of n, with each echo one more than the echo before; the next such is top
 pub record Along (E : ℕ → ℕ) (i n peak j top : ℕ) : Type 0 where
@@ -57,7 +55,7 @@ pub climbs-join : {E : ℕ → ℕ} {i j r : ℕ} → Climbs E i j → Climbs E 
 climbs-join {E} {i} {j} s u = record { more = λ k l h. either (which (ltb k j)) (λ t. s .more k l (ltb-true k j t)) (λ f. u .more k (ltb-false k j f) h) }
 
 module _ {E : ℕ → ℕ} {i n peak j top : ℕ} (s : Along E i n peak j top) where
-  -- one place more, and as many as were looked at together
+  -- as many places more as were looked at together
   longer : (c : ℕ) → j + c ≤ n → ((k : ℕ) → k < c → E (suc (j + k)) ≡ top + k) → (k : ℕ) → k ≤ c → Along E i n peak (j + k) (top + k)
   longer c h l zero g = let z : j + 0 ≡ j = omega arith in
       record { from = omega (arith, s .from); within = omega arith; climbs = rw z (s .climbs); next = omega (arith, s .next, ap E z); far = omega (arith, s .far) }
@@ -73,14 +71,11 @@ module _ {E : ℕ → ℕ} {i n peak j top : ℕ} (s : Along E i n peak j top) w
     far = omega (arith, s .far);
   }
 
-  pub along-more : (x : ℕ) → x ≡ top → x ≡ E (j + 1) → j < n → Along E i n peak (j + 1) (top + 1)
-  along-more x z e h = longer 1 (omega arith) (λ k l. let y : suc (j + k) ≡ j + 1 = omega arith in omega (arith, ap E y)) 1 (omega arith)
+  pub along-more : (c : ℕ) (b : Bool) → Level E j c top b → not b ≡ false → j + c ≤ n → Along E i n peak (j + c) (top + c)
+  along-more c b l z h = longer c h (l .are (not-false b z)) c (omega arith)
 
-  pub along-block : (b : Bool) → Level E j 16 top b → not b ≡ false → j + 16 ≤ n → Along E i n peak (j + 16) (top + 16)
-  along-block b l z h = longer 16 h (l .are (not-false b z)) 16 (omega arith)
-
-  pub along-narrow : j + 16 ≤ n → n ≤ limit → peak ≤ limit → top + 16 < 65536
-  along-narrow h g l = omega (arith, s .far)
+  pub along-narrow : (c : ℕ) → j + c ≤ n → n ≤ limit → peak ≤ i → top + c < 65536
+  along-narrow c h g l = omega (arith, s .far)
 
 -- over such a run every place passes, since the greatest value always stands
 peak-passes : {A : ℕ} {E : ℕ → ℕ} (i : ℕ) → Passes A E i → E (suc i) ≡ peak E i → Passes A E (suc i)
@@ -95,18 +90,14 @@ climbs-passes {A} {E} {i} s pos p (suc (suc j)) l h = either (same? i (suc (suc 
     (λ d. peak-passes (suc j) (climbs-passes s pos p (suc j) (omega arith) (omega arith)) (s .more (suc j) (omega arith) (omega arith)))
 
 module _ {A : ℕ} {E : ℕ → ℕ} {i : ℕ} (passes : Passes A E i) where
-  pub passing-fits : (n p m : ℕ) → p ≡ peak E i → i < n → n ≤ limit → m < 65536 → Fits w64 (p + m)
-  passing-fits n p m e g h l = record { fits = omega (arith, peak-low i passes) }
-
-  pub passing-low : (n p m : ℕ) → p ≡ peak E i → m ≡ p → i < n → n ≤ limit → m + 1 ≤ limit
-  passing-low n p m e z g h = omega (arith, peak-low i passes)
+  pub passing-low : (m p : ℕ) → p ≡ peak E i → m ≡ p → m + 1 ≤ i + 1
+  passing-low m p e z = omega (arith, peak-low i passes)
 
   -- one place, and a run of them
-  pub passed-one : (n m w : ℕ) → m ≡ E (i + 1) → i < n → w ≡ weighed A E i m → Passed A E i n w (i + 1) (m + 1)
+  pub passed-one : (n m w : ℕ) → m ≡ E (i + 1) → i < n → w ≡ weighed A E i m → Passed A E i n w (i + 1)
   passed-one n m w e h is = record {
     further = omega arith;
     within = omega arith;
-    top = peak-some E (i + 1) m e (λ z. omega arith);
     passes = λ z. rw add-one (passes-suc i passes (sym same ∙ z));
     stuck = λ d. (add-one i, same);
   }
@@ -114,15 +105,13 @@ module _ {A : ℕ} {E : ℕ → ℕ} {i : ℕ} (passes : Passes A E i) where
       same : w ≡ weighed A E i (E (suc i))
       same = is ∙ ap (weighed A E i) (e ∙ ap E (add-one i))
 
-  pub passed-run : (n m p r : ℕ) → m ≡ E (i + 1) → p ≡ peak E i → m ≡ p → i + 1 ≤ r → r ≤ n → Climbs E (i + 1) r → Passed A E i n DONE r (m + (r - i))
+  pub passed-run : (n m p r : ℕ) → m ≡ E (i + 1) → p ≡ peak E i → m ≡ p → i + 1 ≤ r → r ≤ n → Climbs E (i + 1) r → Passed A E i n DONE r
   passed-run n m p r e top z l h s = record {
     further = omega arith;
     within = h;
-    top = let y : i + 1 + (r - (i + 1)) ≡ r = omega arith in let k : m + (r - i) ≡ E r + 1 = omega (arith, ap E y, climbs-high s (r - (i + 1)) (omega arith)) in
-        k ∙ peak-some E r (E r) refl (λ z. omega arith);
     passes = λ y. climbs-passes s (omega arith) (rw add-one (peak-passes i passes (ap E (sym (add-one i)) ∙ sym e ∙ z ∙ top))) r l (omega arith);
     stuck = λ d. absurd (d refl);
   }
 
-pub passed-passes : {A : ℕ} {E : ℕ → ℕ} {i n w p q : ℕ} → Passed A E i n w p q → w ≡ DONE → Passes A E p
+pub passed-passes : {A : ℕ} {E : ℕ → ℕ} {i n w p : ℕ} → Passed A E i n w p → w ≡ DONE → Passes A E p
 passed-passes s z = s .passes z

@@ -22,16 +22,28 @@ pub record Climbs (E : ℕ → ℕ) (i n : ℕ) : Type 0 where
 pub record Level (E : ℕ → ℕ) (i k top : ℕ) (s : Bool) : Type 0 where
   pub are : s ≡ true → (j : ℕ) → j < k → E (suc (i + j)) ≡ top + j
 
--- a table of pairs that stood: where the entry of a pair p, m of small values is 1, the value m stands wherever p is the greatest
-pub record Stood (A : ℕ) (E : ℕ → ℕ) (s : List ℕ) : Type 0 where
-  pub long : length s ≡ 256
-  pub again : (p m : ℕ) → p + m < 16 → getD s (16 * p + m) 0 ≡ 1 → (i : ℕ) → peak E i ≡ p → weighed A E i m ≡ DONE
+-- where s is true, the echoes of the k places from place i on are below 15
+pub record Low (E : ℕ → ℕ) (i k : ℕ) (s : Bool) : Type 0 where
+  pub below : s ≡ true → (j : ℕ) → j < k → E (i + j) < 15
 
--- going on from the first i places, which pass, of n: with the number 0 the first p pass, and q is the greatest value behind them; else w is the number of
--- the next value, at place p
-pub record Passed (A : ℕ) (E : ℕ → ℕ) (i n w p q : ℕ) : Type 0 where
+-- a table of pairs that stood: where the entry of a pair p, m of small values is 0, the value m stands wherever p is the greatest
+pub record Stood (A : ℕ) (E : ℕ → ℕ) (f : List ℕ) : Type 0 where
+  pub long : length f ≡ 256
+  pub again : (p m : ℕ) → p < 16 → m < 16 → getD f (16 * p + m) 0 ≡ 0 → (i : ℕ) → peak E i ≡ p → weighed A E i m ≡ DONE
+
+-- where s is true, the k places behind the first i pass by the table f alone
+pub record Known (E : ℕ → ℕ) (f : List ℕ) (i k : ℕ) (s : Bool) : Type 0 where
+  pub pass : s ≡ true → (A : ℕ) → Stood A E f → Passes A E i → Passes A E (i + k)
+
+-- from place i to place r, of n, the places pass by the table f alone
+pub record Skims (E : ℕ → ℕ) (f : List ℕ) (i n r : ℕ) : Type 0 where
+  pub from : i ≤ r
+  pub within : r ≤ n
+  pub pass : (A : ℕ) → Stood A E f → Passes A E i → Passes A E r
+
+-- going on from the first i places, which pass, of n: with the number 0 the first p pass; else w is the number of the next value, at place p
+pub record Passed (A : ℕ) (E : ℕ → ℕ) (i n w p : ℕ) : Type 0 where
   pub further : i < p
   pub within : p ≤ n
-  pub top : q ≡ peak E p
   pub passes : w ≡ DONE → Passes A E p
   pub stuck : (w ≡ DONE → ⊥) → (p ≡ suc i) × (w ≡ weighed A E i (E (suc i)))

@@ -1,6 +1,6 @@
 -- `level`: the first k of the places are looked at. Assumes nothing.
 use borrow.Author.Needs.{needs}
-use Prim.Native.Nat.{_-_, _≤_}
+use Prim.Native.Nat.{_-_}
 use Rattle.words.specs.Lists.{both, at}
 use Rattle.judging.specs.Judging.{Level}
 use Rattle.judging.proofs.Passing.{level-none, level-more, level-all}
@@ -8,10 +8,10 @@ use Rattle.judging.proofs.level.Statement.{statement}
 use Rattle.judging.proofs.level.Tie as tie
 
 abbrev Inv-loop : tie.InvT-loop
-Inv-loop t i top k₀ same₀ k same = (k ≤ 16) × Level (at t) i k top same
+Inv-loop t i c top k₀ same₀ k same = Level (at t) i k top same
 
 abbrev μ-loop : tie.MeasureT-loop
-μ-loop t i top k₀ same₀ k same = 16 - k
+μ-loop t i c top k₀ same₀ k same = c - k
 
 loop-holds : tie.Need-loop-holds Inv-loop μ-loop
 loop-holds c = search (needs, level-none)
@@ -39,7 +39,7 @@ loop-less c = search needs
 
 loop-again : tie.Need-loop-again Inv-loop μ-loop
 unfolding both
-loop-again c = (search needs, search (needs, level-more))
+loop-again c = search (needs, level-more)
 
 returns : tie.Need-returns Inv-loop μ-loop
 returns c = search (needs, level-all)

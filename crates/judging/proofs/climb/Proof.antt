@@ -1,16 +1,16 @@
--- `blocks`: each echo so far is one more than the echo before. Assumes nothing.
+-- `climb`: each echo so far is one more than the echo before. Assumes nothing.
 use borrow.Author.Needs.{needs}
 use Prim.Native.Nat.{_-_}
 use Rattle.words.specs.Lists.{at}
-use Rattle.judging.proofs.Passing.{Along, along-start, along-block, along-narrow}
-use Rattle.judging.proofs.blocks.Statement.{statement}
-use Rattle.judging.proofs.blocks.Tie as tie
+use Rattle.judging.proofs.Passing.{Along, along-start, along-more, along-narrow}
+use Rattle.judging.proofs.climb.Statement.{statement}
+use Rattle.judging.proofs.climb.Tie as tie
 
 abbrev Inv-loop : tie.InvT-loop
-Inv-loop t i n peak j₀ top₀ j top = Along (at t) i n peak j top
+Inv-loop t i n c peak j₀ top₀ j top = Along (at t) i n peak j top
 
 abbrev μ-loop : tie.MeasureT-loop
-μ-loop t i n peak j₀ top₀ j top = n - j
+μ-loop t i n c peak j₀ top₀ j top = n - j
 
 loop-holds : tie.Need-loop-holds Inv-loop μ-loop
 loop-holds c = search (needs, along-start)
@@ -37,13 +37,13 @@ loop-less : tie.Need-loop-less Inv-loop μ-loop
 loop-less c = search needs
 
 loop-again : tie.Need-loop-again Inv-loop μ-loop
-loop-again c = search (needs, along-block)
+loop-again c = search (needs, along-more)
 
 returns-2 : tie.Need-returns-2 Inv-loop μ-loop
 returns-2 c = search needs
 
-pub blocks-spec : {M : Type 1} → statement M
-blocks-spec =
+pub climb-spec : {M : Type 1} → statement M
+climb-spec =
     tie.close
     (tie.spec
     Inv-loop
