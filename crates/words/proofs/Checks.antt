@@ -1,5 +1,5 @@
 -- Laws of the checks: each number is given exactly when its table says so, and the first check that is not done answers. Assumes nothing.
-use mathlib.Core.Path.{_≡_, sym, ap, subst, _∙_}
+use mathlib.Core.Path.{_≡_, refl, sym, ap, subst, _∙_}
 use mathlib.Core.Bool.{Bool, true, false, not}
 use mathlib.Core.List.{List, [], _∷_}
 use Prim.Native.Nat.{ℕ, zero, suc, _+_, _-_, _≤_, _<_}
@@ -10,7 +10,7 @@ use borrow.Author.Tests.{eq-eqb, ne-eqb, le-leb, lt-leb, lt-ltb, le-ltb, leb-tru
 use Rattle.words.specs.Lists.{both, firstOf, run, places, at}
 use Rattle.words.specs.Rows.{card}
 use Rattle.words.specs.Outcomes.{kept, given, answered, counted}
-use Rattle.words.specs.Numbers.{DONE, LONG, CARD, letters, firstLetter, letter, over, foreign, outside, differs, differing, named, unless, alphabet, long, matching, cards, refusal, sizes, lent, limit}
+use Rattle.words.specs.Numbers.{DONE, ALPHABET, LONG, MISMATCH, CARD, letters, firstLetter, letter, over, foreign, outside, differs, differing, named, unless, alphabet, long, matching, cards, refusal, sizes, lent, rowed, paired, limit}
 use Rattle.words.proofs.Lists.{which, either, same?, not-both, every-in, every-out, both-out, both-true, both-left, both-right}
 use Rattle.words.proofs.Places.{places-in, places-out, first-places, first-start, first-here, first-more, first-none}
 
@@ -58,6 +58,42 @@ refusal-clear c d l z = either (same? (c .0) DONE)
     (λ e. (e, rw (eq-eqb (c .0) DONE e) at z))
     (λ n. absurd (n (rw (ne-eqb (c .0) DONE n) at z)))
 
+-- no check gives a number above its own, and no list of checks one above all of theirs
+unless-low : (t : Bool) (n : ℕ) → unless t n .0 ≤ n
+unfolding unless
+unless-low t n = either (which t) (λ y. rw y (omega arith)) (λ f. rw f (omega arith))
+
+pub named-low : (n p : ℕ) → named n p .0 ≤ n
+unfolding named
+named-low n p = either (which (eqb p 0)) (λ y. rw y (omega arith)) (λ f. rw f (omega arith))
+
+pub refusal-low : (c d : ℕ × ℕ) (l : List (ℕ × ℕ)) (m : ℕ) → c .0 ≤ m → (c .0 ≡ DONE → refusal (d ∷ l) .0 ≤ m) → refusal (c ∷ d ∷ l) .0 ≤ m
+unfolding refusal
+refusal-low c d l m h k = either (same? (c .0) DONE) (λ z. rw (eq-eqb (c .0) DONE z) (k z)) (λ n. rw (ne-eqb (c .0) DONE n) h)
+
+pub sizes-low : (A n : ℕ) → sizes A n .0 ≤ LONG
+unfolding alphabet long refusal
+sizes-low A n = refusal-low (alphabet A) (long limit n) [] LONG (omega (arith, unless-low (both (leb 1 A) (leb A letters)) ALPHABET)) (λ z. unless-low (leb n limit) LONG)
+
+pub cards-low : (A : ℕ) (x : List ℕ) → cards A x .0 ≤ CARD
+unfolding cards
+cards-low A x = named-low CARD (outside A x)
+
+pub rowed-low : (A : ℕ) (x : List ℕ) → rowed A x .0 ≤ CARD
+unfolding refusal
+rowed-low A x = refusal-low (sizes A (length x)) (cards A x) [] CARD (omega (arith, sizes-low A (length x))) (λ z. cards-low A x)
+
+pub paired-low : (A : ℕ) (x g : List ℕ) → paired A x g .0 ≤ CARD
+unfolding refusal long matching
+paired-low A x g = refusal-low lengths (cards A x) (cards A g ∷ []) CARD
+    (refusal-low (sizes A (length x)) (long limit (length g)) (matching (length x) (length g) ∷ []) CARD (omega (arith, sizes-low A (length x)))
+    (λ z. refusal-low (long limit (length g)) (matching (length x) (length g)) [] CARD
+    (omega (arith, unless-low (leb (length g) limit) LONG)) (λ y. omega (arith, unless-low (eqb (length g) (length x)) MISMATCH))))
+    (λ z. refusal-low (cards A x) (cards A g) [] CARD (cards-low A x) (λ y. cards-low A g))
+  where
+    lengths : ℕ × ℕ
+    lengths = refusal (sizes A (length x) ∷ long limit (length g) ∷ matching (length x) (length g) ∷ [])
+
 pub long-clear : (most n : ℕ) → long most n .0 ≡ DONE → n ≤ most
 unfolding long unless
 long-clear most n z = either (which (leb n most)) (λ t. leb-true n most t) (λ f. absurd (omega (arith, rw f at z)))
@@ -85,6 +121,24 @@ lent-clear A n m z =
     let (p, q) = refusal-clear (sizes A n) (matching n m) [] z in
     let (s, t, l) = sizes-clear A n p in
     (s, t, l, matching-clear n m q)
+
+-- a check of a slice that is done is at place 0
+pub lent-done : (A n m : ℕ) → lent A n m .0 ≡ DONE → lent A n m ≡ (DONE, 0)
+unfolding matching refusal
+lent-done A n m z = let (p, q) = refusal-clear (sizes A n) (matching n m) [] z in
+    sym (refusal-last (sizes A n) (matching n m) (sizes A n) (DONE, 0) refl p (unless-good (eqb m n) MISMATCH (eq-eqb m n (matching-clear n m q))))
+
+pub paired-clear : (A : ℕ) (x g : List ℕ) → paired A x g .0 ≡ DONE → (length x ≤ limit) × (length g ≤ limit) × (length g ≡ length x)
+unfolding refusal
+paired-clear A x g z =
+    let lengths = refusal (sizes A (length x) ∷ long limit (length g) ∷ matching (length x) (length g) ∷ []) in
+    let (s, m) = refusal-clear (sizes A (length x)) (long limit (length g)) (matching (length x) (length g) ∷ []) (refusal-clear lengths (cards A x) (cards A g ∷ []) z .0) in
+    let (l, e) = refusal-clear (long limit (length g)) (matching (length x) (length g)) [] m in
+    (sizes-clear A (length x) s .2, long-clear limit (length g) l, matching-clear (length x) (length g) e)
+
+pub named-clear : (n p : ℕ) → (n ≡ DONE → ⊥) → named n p .0 ≡ DONE → p ≡ 0
+unfolding named
+named-clear n p d z = either (same? p 0) (λ e. e) (λ h. absurd (d (rw (ne-eqb p 0 h) at z)))
 
 pub letter-below : (A c : ℕ) → c < firstLetter → false ≡ letter A c
 unfolding letter
@@ -120,7 +174,16 @@ pub cards-named : (A : ℕ) (x : List ℕ) (p : ℕ) (r : ℕ × ℕ) → p ≡ 
 unfolding cards
 cards-named A x p r e h = h ∙ ap (named CARD) e
 
--- an answer with a buffer: every number but 0 leaves it as it came; with 0 it holds the new contents
+-- every number but 0 leaves a buffer as it came; with 0 it holds the new contents
+pub kept-old : (r : ℕ × ℕ) (new old : List ℕ) → (r .0 ≡ DONE → ⊥) → kept r new old ≡ old
+unfolding kept
+kept-old r new old d = rw (ne-eqb (r .0) DONE d)
+
+pub kept-new : (r : ℕ × ℕ) (new old : List ℕ) → r .0 ≡ DONE → kept r new old ≡ new
+unfolding kept
+kept-new r new old z = rw (eq-eqb (r .0) DONE z)
+
+-- an answer with a buffer
 pub answered-old : (n p : ℕ) (R : ℕ × ℕ) (new old : List ℕ) → (n, p) ≡ R → (n ≡ DONE → ⊥) → (n, p, old) ≡ answered R new old
 unfolding answered kept
 answered-old n p R new old e d = subst (λ (S : ℕ × ℕ). (n, p, old) ≡ answered S new old) e (rw (ne-eqb n DONE d))

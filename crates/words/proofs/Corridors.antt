@@ -7,12 +7,12 @@ use lib.Dec.{eqb}
 use lib.ListN.{length}
 use Rattle.words.specs.Lists.{both, each, any, every, keep, firstOf, greatest, joined, sum, equal, run, places, falling, at}
 use Rattle.words.specs.Rows.{card, agree, closes, echo, echoes, downIn, down, chain, reach, reaches, borders, periods, looksFrom, looksAt, looksTo, looks}
-use Rattle.words.specs.Numbers.{DONE, IMPOSSIBLE, HIDDEN, FULL, LAST, DIFFERS, letter, foreign, outside, differs, differing, named, unless, alphabet, long, matching, cards, refusal}
+use Rattle.words.specs.Numbers.{DONE, MISMATCH, IMPOSSIBLE, HIDDEN, FULL, LAST, DIFFERS, letter, foreign, outside, differs, differing, named, unless, alphabet, long, matching, cards, refusal}
 use Rattle.words.specs.Stand.{possible, hidden, opens, weight, weighed, numberAt, fails, firstBad, verdict}
 use Rattle.words.specs.Least.{leastNot, freeLetter, nextCard, rebuilt}
 use Rattle.words.specs.Listing.{more, values, listing, countFrom, standing, count, head, behind}
 use Rattle.words.specs.Sheet.{decimalIn, decimal, fields, line, text, lines, sheet}
-use Rattle.words.specs.Outcomes.{kept, given, answered, counted, echoes-outcome, reach-outcome, looks-outcome, sheet-outcome, guess-outcome, judge-outcome, count-outcome, rebuild-rule, next-rule}
+use Rattle.words.specs.Outcomes.{kept, given, answered, counted, echoes-outcome, reach-outcome, looks-outcome, sheet-outcome, guess-outcome, judge-outcome, count-outcome, rebuild-rule, first-rule, next-rule}
 
 -- what 01 says of a row or an array over A
 pub data Case : Type 0 where
@@ -24,8 +24,10 @@ pub data Case : Type 0 where
   counting : (A n count : ℕ) → Case
   writing : (A : ℕ) (row text : List ℕ) → Case
   guessing : (A : ℕ) (hidden guess : List ℕ) (number place : ℕ) → Case
+  starting : (A n : ℕ) (f : List ℕ) → Case
   stepping : (A : ℕ) (e f : List ℕ) → Case
-  ending : (A : ℕ) (e : List ℕ) → Case
+  stopping : (A : ℕ) (e : List ℕ) (number place : ℕ) → Case
+  lending : (A : ℕ) (e buffer : List ℕ) → Case
 
 -- a buffer of the same length that holds neither a card nor an echo of the cases
 unfoldable pub blank : List ℕ → List ℕ
@@ -49,8 +51,11 @@ holds (rebuilding A e row) = answers (rebuild-rule A e (blank e)) DONE 0 row
 holds (counting A n k) = tells (count-outcome A n) k
 holds (writing A row text) = let r = sheet-outcome A row (blank text) in both (tells (r .0, r .1, r .2) (length text)) (equal (r .3) text)
 holds (guessing A x g number place) = let r = guess-outcome A x g in both (eqb (r .0) number) (eqb (r .1) place)
+holds (starting A n f) = answers (first-rule A n (blank f)) DONE 0 f
 holds (stepping A e f) = answers (next-rule A e) DONE 0 f
-holds (ending A e) = answers (next-rule A e) LAST 0 e
+holds (stopping A e number place) = answers (next-rule A e) number place e
+holds (lending A e buffer) = let w = rebuild-rule A e buffer in let f = first-rule A (length e) buffer in
+    both (answers w MISMATCH 0 buffer) (answers f MISMATCH 0 buffer)
 
 abbrev a : ℕ
 a = 97
@@ -78,8 +83,9 @@ abaab =
     ∷ 108 ∷ 111 ∷ 111 ∷ 107 ∷ 115 ∷ 9 ∷ 53 ∷ 10
     ∷ []
 
--- in order: P1, P2, P3, P4; P5 to P8; P9; P10, P11; P12; P13, P14; and further the least row of 0 0 0, which is abb; 01's sheet; a guess at abb by abc,
--- whose cards differ first at place 3 and whose echoes do not, and one whose echoes do
+-- in order: P1, P2, P3, P4; P5 to P8; P9; P10, P11; P12; P13, P14; and further the least row of 0 0 0, which is abb; 01's sheet; the first array of
+-- four places over three letters and over one; P11's array is not stepped from; a buffer of two for three; a guess at abb by abc, whose cards differ first at
+-- place 3 and whose echoes do not, and one whose echoes do
 unfoldable pub table : List Case
 table =
     echoing 1 [] [] ∷ looking 1 [] 0
@@ -95,9 +101,11 @@ table =
     ∷ judged 2 (0 ∷ 2 ∷ []) IMPOSSIBLE 2
     ∷ counting 1 4 1 ∷ counting 2 4 8 ∷ counting 3 4 9
     ∷ stepping 3 (0 ∷ 0 ∷ 0 ∷ 1 ∷ []) (0 ∷ 0 ∷ 1 ∷ 0 ∷ []) ∷ stepping 2 (0 ∷ 0 ∷ 0 ∷ 1 ∷ []) (0 ∷ 0 ∷ 1 ∷ 1 ∷ [])
-    ∷ ending 2 (0 ∷ 1 ∷ 2 ∷ [])
+    ∷ stopping 2 (0 ∷ 1 ∷ 2 ∷ []) LAST 0
     ∷ rebuilding 3 (0 ∷ 0 ∷ 0 ∷ []) (a ∷ b ∷ b ∷ [])
     ∷ writing 3 (a ∷ b ∷ a ∷ a ∷ b ∷ []) abaab
+    ∷ starting 3 4 (0 ∷ 0 ∷ 0 ∷ 0 ∷ []) ∷ starting 1 4 (0 ∷ 1 ∷ 2 ∷ 3 ∷ [])
+    ∷ stopping 2 (0 ∷ 2 ∷ []) IMPOSSIBLE 2 ∷ lending 3 (0 ∷ 0 ∷ 0 ∷ []) (200 ∷ 200 ∷ [])
     ∷ guessing 3 (a ∷ b ∷ b ∷ []) (a ∷ b ∷ c ∷ []) DONE 0 ∷ guessing 2 (a ∷ a ∷ b ∷ []) (a ∷ b ∷ a ∷ []) DIFFERS 2
     ∷ []
 
@@ -110,5 +118,5 @@ unfolding table abaab decimalIn decimal fields line text lines sheet p4 p9 holds
     possible hidden opens weight weighed numberAt fails firstBad verdict
     leastNot freeLetter nextCard rebuilt
     more values listing countFrom standing count head behind
-    kept given answered counted echoes-outcome reach-outcome looks-outcome sheet-outcome guess-outcome judge-outcome count-outcome rebuild-rule next-rule
+    kept given answered counted echoes-outcome reach-outcome looks-outcome sheet-outcome guess-outcome judge-outcome count-outcome rebuild-rule first-rule next-rule
 corridors = refl

@@ -1,5 +1,5 @@
 -- What each entry open to callers answers and leaves in every lent buffer, on every input: first the checks in their order, then the work. Where a
--- function would hide the meaning (rebuild, first, next) the outcome is a relation in the demand's words; the rules that compute rebuild and next stand beside them.
+-- function would hide the meaning (rebuild, first, next) the outcome is a relation in the demand's words, and beside it stands the rule that computes it.
 -- Assumes nothing: these are definitions.
 use mathlib.Core.Path.{_≡_}
 use mathlib.Core.Bool.{cond}
@@ -74,6 +74,9 @@ rebuild-rule A e old = answered (refusal (lent A (length e) (length old) ∷ ver
 pub data Starts (A n : ℕ) (old : List ℕ) (r : ℕ × ℕ) (new : List ℕ) : Type 0 where
   refuses : (r .0 ≡ DONE → ⊥) → r ≡ lent A n (length old) → new ≡ old → Starts A n old r new
   starts : lent A n (length old) .0 ≡ DONE → First A n new → r ≡ (DONE, 0) → Starts A n old r new
+
+unfoldable pub first-rule : ℕ → ℕ → List ℕ → ℕ × ℕ × List ℕ
+first-rule A n old = answered (lent A n (length old)) (head (listing (standing A) n [])) old
 
 -- next: the least standing array of the same length that is greater; 9 where there is none; one that does not stand, its verdict
 pub data Steps (A : ℕ) (e : List ℕ) (r : ℕ × ℕ) (new : List ℕ) : Type 0 where
