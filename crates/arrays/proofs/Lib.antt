@@ -10,3 +10,4 @@ pub mod Places
 pub mod Theorem
 pub mod Reasons
 pub mod Tables
+pub mod Meets

@@ -17,14 +17,14 @@ use Rattle.arrays.specs.Steps.{Passes, peak}
 use Rattle.arrays.proofs.Rules.{weighed-first, passes-sound, passes-none, passes-suc, passes-part, sound-small, peak-low, peak-stands}
 use Rattle.arrays.proofs.Alike.{weighed-alike}
 use Rattle.arrays.proofs.Theorem.{stands-passes, passes-stands}
-use Rattle.listing.specs.Sets.{Completes, Lists, Visits}
+use Rattle.listing.specs.Sets.{Completes, Lists, Trail, Visits, Opening}
 use Rattle.words.proofs.Places.{run-long, run-getD}
 use Rattle.words.proofs.Order.{before-not, before-total, least-one, Highest}
 use Rattle.listing.proofs.Listing.{more-append, values-in, lists}
 use Rattle.listing.proofs.Sizes.{completes-more}
 use Rattle.listing.proofs.Steps.{last-steps}
 use Rattle.listing.proofs.Standing.{after-stands, first-least, head-first, behind-next, behind-last, stepping}
-use Rattle.listing.proofs.Walk.{walk-listing}
+use Rattle.listing.proofs.Walk.{walk-opens, walk-listing}
 
 -- the first i places as an array of their own: the value m weighs the same behind them
 pub weighed-take : (A : ℕ) (e : List ℕ) (i m : ℕ) → i ≤ length e → Passes A (at e) i → weighed A (at (take i e)) (length (take i e)) m ≡ weighed A (at e) i m
@@ -64,6 +64,11 @@ pub steps-visit : (A : ℕ) → 0 < A → (n : ℕ) (f : List ℕ) → First A n
     → Visits (Next A) (λ x. (z : List ℕ) → StandsAfter A x z → ⊥) f (listing (standing A) n []) × Lists (Stands A) n (listing (standing A) n []) × (count A n ≡ length (listing (standing A) n []))
 unfolding count
 steps-visit A pos n f h = walk-listing (stepping A n) (standing A) (stands-completes A) (completes-stands A pos) f (first-least A n f h)
+
+-- as long as they do not end they visit an opening of it
+pub steps-open : (A : ℕ) → 0 < A → (n : ℕ) (f : List ℕ) → First A n f → {F : List ℕ → Type 0} (T : List (List ℕ)) → Trail (Next A) F f T
+    → Opening (Stands A) n F (listing (standing A) n []) T
+steps-open A pos n f h T t = walk-opens (stepping A n) f (listing (standing A) n []) T (stands-lists A pos n) (first-least A n f h) t
 
 -- every standing prefix can be completed
 pub completed : (A : ℕ) → 0 < A → (r : ℕ) (p : List ℕ) → Stands A p → (c : List ℕ) × (length c ≡ r) × Stands A (p ++ c)

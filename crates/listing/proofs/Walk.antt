@@ -2,7 +2,7 @@
 -- Assumes nothing.
 use mathlib.Core.Path.{_≡_, refl, sym, ap, subst, _∙_}
 use mathlib.Core.Bool.{Bool, true, false}
-use mathlib.Core.List.{List, [], _∷_, List·Memᴰ as Has, List·Memᴰ·head as top, List·Memᴰ·tail as under, List·Memᴰ·not-nil as has-nil, List·Memᴰ·cases-cons as has-cons}
+use mathlib.Core.List.{List, [], _∷_, _++_, append-nil, List·Memᴰ as Has, List·Memᴰ·head as top, List·Memᴰ·tail as under, List·Memᴰ·not-nil as has-nil, List·Memᴰ·cases-cons as has-cons}
 use Prim.Native.Nat.{ℕ}
 use lib.Dec.{eqb}
 use lib.ListN.{length}
@@ -11,7 +11,7 @@ use Rattle.words.specs.Lists.{equal}
 use Rattle.words.specs.Least.{Least}
 use Rattle.words.specs.Listing.{listing, countFrom, head, behind}
 use Rattle.words.proofs.Lists.{which, either, not-both}
-use Rattle.listing.specs.Sets.{Completes, Rising, Sized, After, Lists, Trail, ends, steps, Stepping, Visits}
+use Rattle.listing.specs.Sets.{Completes, Rising, Sized, After, Lists, Trail, ends, steps, Stepping, Visits, Opening}
 use Rattle.words.proofs.Order.{before-self, before-trans, before-asym, least-one, least-alike}
 use Rattle.listing.proofs.Listing.{lists, listing-count}
 
@@ -28,6 +28,12 @@ pub equal-self : (x : List ℕ) → equal x x ≡ true
 unfolding equal
 equal-self [] = refl
 equal-self (a ∷ x) = rw (eq-eqb a a refl) (equal-self x)
+
+-- a walk by other steps to another end
+pub trail-alike : {R S : List ℕ → List ℕ → Type 0} {E F : List ℕ → Type 0} {x : List ℕ} {T : List (List ℕ)}
+    → ((x y : List ℕ) → R x y → S x y) → ((x : List ℕ) → E x → F x) → Trail R E x T → Trail S F x T
+trail-alike f g (ends e) = ends (g _ e)
+trail-alike f g (steps r t) = steps (f _ _ r) (trail-alike f g t)
 
 lists-alike : {P Q : List ℕ → Type 0} {n : ℕ} {L : List (List ℕ)} → ((z : List ℕ) → P z → Q z) → ((z : List ℕ) → Q z → P z) → Lists P n L → Lists Q n L
 lists-alike into out s = record {
@@ -115,13 +121,24 @@ module _ {P : List ℕ → Type 0} {n : ℕ} {R : List ℕ → List ℕ → Type
   walk-on x [] h s = ends (by .stops x h (after-none h s))
   walk-on x (y ∷ M) h s = steps (by .whole x y h (after-first h s)) (walk-on y M (lists-head s) (lists-on s))
 
-  walk-one : (x : List ℕ) (M T : List (List ℕ)) → Sized P n x → Lists (After P x) n M → Trail R E x T → T ≡ x ∷ M
-  walk-one x [] _ h s (ends e) = refl
-  walk-one x (y ∷ M) _ h s (ends e) = absurd (by .last x h e y (s .only y (top refl) .is))
-  walk-one x [] _ h s (steps {y = z} r t) = absurd (after-none h s z (by .sound x z h r .is))
-  walk-one x (y ∷ M) _ h s (steps {y = z} {T = T} r t) =
+  -- steps from x on, whatever they end by, visit an opening of what x and those behind it are
+  walk-part : {F : List ℕ → Type 0} (x : List ℕ) (M T : List (List ℕ)) → Sized P n x → Lists (After P x) n M → Trail R F x T → Opening P n F (x ∷ M) T
+  walk-part x [] _ h s (ends e) = record { last = x; rest = []; split = refl; is = h; ends = e; behind = s }
+  walk-part x (y ∷ M) _ h s (ends e) = record { last = x; rest = y ∷ M; split = refl; is = h; ends = e; behind = s }
+  walk-part x [] _ h s (steps {y = z} r t) = absurd (after-none h s z (by .sound x z h r .is))
+  walk-part {F} x (y ∷ M) _ h s (steps {y = z} {T = T} r t) =
       let e : y ≡ z = least-one (after-first h s) (by .sound x z h r) in
-      ap (λ (l : List (List ℕ)). x ∷ l) (walk-one y M T (lists-head s) (lists-on s) (subst (λ (k : List ℕ). Trail R E k T) (sym e) t))
+      let o = walk-part y M T (lists-head s) (lists-on s) (subst (λ (k : List ℕ). Trail R F k T) (sym e) t) in
+      record { last = o .last; rest = o .rest; split = ap (λ (l : List (List ℕ)). x ∷ l) (o .split); is = o .is; ends = o .ends; behind = o .behind }
+
+  -- where they end by E nothing is left
+  walk-one : (x : List ℕ) (M T : List (List ℕ)) → Sized P n x → Lists (After P x) n M → Trail R E x T → T ≡ x ∷ M
+  walk-one x M T h s t = let o = walk-part x M T h s t in
+      sym (o .split ∙ ap (λ (K : List (List ℕ)). T ++ K) (none (o .rest) (o .behind) (by .last (o .last) (o .is) (o .ends))) ∙ append-nil T)
+    where
+      none : {y : List ℕ} (K : List (List ℕ)) → Lists (After P y) n K → ((z : List ℕ) → After P y z → ⊥) → K ≡ []
+      none [] l d = refl
+      none (z ∷ K) l d = absurd (d z (l .only z (top refl) .is))
 
   -- from the first array on, the steps to the next visit the list of P, each array once, and end
   pub walk : (f : List ℕ) (L : List (List ℕ)) → Lists P n L → Least (Sized P n) f → Visits R E f L
@@ -130,6 +147,11 @@ module _ {P : List ℕ → Type 0} {n : ℕ} {R : List ℕ → List ℕ → Type
     trail = walk-on x M (s .only x (top refl)) (lists-rest s);
     one = λ T t. walk-one x M T (s .only x (top refl)) (lists-rest s) t;
   })
+
+  -- and as long as they do not end they visit an opening of it
+  pub walk-opens : {F : List ℕ → Type 0} (f : List ℕ) (L T : List (List ℕ)) → Lists P n L → Least (Sized P n) f → Trail R F f T → Opening P n F L T
+  walk-opens f [] T s h t = absurd (lists-none s f (h .is))
+  walk-opens {F} f (x ∷ M) T s h t = walk-part x M T (s .only x (top refl)) (lists-rest s) (subst (λ (k : List ℕ). Trail R F k T) (least-one h (lists-first s)) t)
 
   -- THE theorem: where P is what completes the empty prefix, they visit the listing, which holds exactly the arrays of P with n places; they are as many as the count
   pub walk-listing : (ok : List ℕ → ℕ → Bool) → ((e : List ℕ) → P e → Completes ok [] e) → ((e : List ℕ) → Completes ok [] e → P e) → (f : List ℕ) → Least (Sized P n) f

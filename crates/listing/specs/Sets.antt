@@ -54,3 +54,12 @@ pub record Stepping (P : List ℕ → Type 0) (n : ℕ) (R : List ℕ → List �
 pub record Visits (R : List ℕ → List ℕ → Type 0) (E : List ℕ → Type 0) (f : List ℕ) (L : List (List ℕ)) : Type 0 where
   pub trail : Trail R E f L
   pub one : (T : List (List ℕ)) → Trail R E f T → T ≡ L
+
+-- T is an opening of the list L of P: the last array of T ends it by F, and what is left of L lists the arrays that are greater than that one
+pub record Opening (P : List ℕ → Type 0) (n : ℕ) (F : List ℕ → Type 0) (L T : List (List ℕ)) : Type 0 where
+  pub last : List ℕ
+  pub rest : List (List ℕ)
+  pub split : L ≡ T ++ rest
+  pub is : Sized P n last
+  pub ends : F last
+  pub behind : Lists (After P last) n rest
