@@ -1,19 +1,17 @@
 -- What the entries need of their checks, in the code's own terms. Assumes nothing.
-use mathlib.Core.Path.{_≡_, refl, sym, ap, subst, _∙_}
+use mathlib.Core.Path.{_≡_, refl, ap, subst, _∙_}
 use mathlib.Core.List.{List, [], _∷_, _++_}
 use Prim.Native.Nat.{ℕ, _-_, _≤_}
-use native.Mathlib.Omega.{arith}
 use lib.Dec.{leb}
-use lib.ListN.{length, take, drop, length-drop}
-use lib.Seq.{take-all, length-take-le}
+use lib.ListN.{length, drop}
 use borrow.Author.Tests.{ne-eqb}
 use Rattle.words.specs.Rows.{echoes}
-use Rattle.words.specs.Numbers.{DONE, ROOM, DIFFERS, differing, named, letters, limit, countLimit, alphabet, long, matching, cards, unless, refusal, sizes, lent, rowed, paired}
+use Rattle.words.specs.Numbers.{DONE, ROOM, DIFFERS, differing, named, letters, limit, countLimit, alphabet, long, cards, unless, refusal, sizes, lent, rowed, paired}
 use Rattle.words.specs.Sheet.{sheet}
 use Rattle.words.specs.Listing.{First}
 use Rattle.words.specs.Outcomes.{given, kept, sheet-outcome, guess-outcome, Rebuilds, Starts, Steps, refuses, starts}
-use Rattle.words.specs.Strips.{closed, closing, joint, joining}
-use Rattle.words.proofs.Checks.{cleared, refusal-stop, refusal-last, refusal-clear, long-clear, matching-clear, sizes-clear, lent-clear}
+use Rattle.words.specs.Strips.{closed, part, closing, joint, joining}
+use Rattle.words.proofs.Checks.{cleared, refusal-stop, refusal-last, refusal-clear, long-clear, sizes-clear, lent-clear, paired-clear}
 use Rattle.sheets.specs.Written.{written}
 use Rattle.sheets.proofs.Outcome.{sheet-written}
 
@@ -32,16 +30,13 @@ module _ (n p A : ℕ) (x : List ℕ) (done : n ≡ DONE) where
   lent-matches m e = lent-clear A (length x) m (first (lent A (length x) m) e) .3
 
 -- a strip by its length
-pub closing-by : (x : List ℕ) (k : ℕ) → k ≡ closed x → take (length x - (length x - k)) (drop (length x - k) x) ≡ closing x
+pub closing-by : (x : List ℕ) (p : ℕ × ℕ) (k : ℕ) (r : List ℕ × (ℕ × ℕ)) → k ≡ closed x → r ≡ part x p (length x - k) k → r ≡ closing x p
 unfolding closing
-closing-by x k q = let n = length x - k in take-all (length x - n) (drop n x) (omega (arith, length-drop n x)) ∙ ap (λ (m : ℕ). drop (length x - m) x) q
+closing-by x p k r q h = h ∙ ap (λ (m : ℕ). part x p (length x - m) m) q
 
-pub joining-by : (x y : List ℕ) (k : ℕ) → k ≡ joint x y → take k y ≡ joining x y
+pub joining-by : (x y : List ℕ) (p : ℕ × ℕ) (k : ℕ) (r : List ℕ × (ℕ × ℕ)) → k ≡ joint x y → r ≡ part y p 0 k → r ≡ joining x y p
 unfolding joining
-joining-by x y k q = ap (λ (m : ℕ). take m y) q
-
-pub part-long : (k : ℕ) (l : List ℕ) → k ≤ length l → k ≡ length (take k l)
-part-long k l h = sym (length-take-le k l h)
+joining-by x y p k r q h = h ∙ ap (part y p 0) q
 
 pub sheet-refused : (A : ℕ) (x old : List ℕ) (n p : ℕ) → (n, p) ≡ rowed A x → (n ≡ DONE → ⊥) → (n, p, 0, old) ≡ sheet-outcome A x old
 unfolding sheet-outcome given kept
@@ -65,19 +60,17 @@ sheet-letters A x n p e z = sizes-clear A (length x) (refusal-clear (sizes A (le
 
 -- two rows that no check refuses
 module _ (A : ℕ) (x g : List ℕ) (n p : ℕ) (checked : (n, p) ≡ paired A x g) (done : n ≡ DONE) where
-  lengths : (sizes A (length x) .0 ≡ DONE) × (refusal (long limit (length g) ∷ matching (length x) (length g) ∷ []) .0 ≡ DONE)
-  lengths = refusal-clear (sizes A (length x)) (long limit (length g)) (matching (length x) (length g) ∷ [])
-      (refusal-clear (refusal (sizes A (length x) ∷ long limit (length g) ∷ matching (length x) (length g) ∷ [])) (cards A x) (cards A g ∷ []) (cleared n p (paired A x g) checked done) .0)
+  clear : (length x ≤ limit) × (length g ≤ limit) × (length g ≡ length x)
+  clear = paired-clear A x g (cleared n p (paired A x g) checked done)
 
   pub pair-hidden : length x ≤ limit
-  pair-hidden = sizes-clear A (length x) (lengths .0) .2
+  pair-hidden = clear .0
 
   pub pair-guess : length g ≤ limit
-  pair-guess = long-clear limit (length g) (refusal-clear (long limit (length g)) (matching (length x) (length g)) [] (lengths .1) .0)
+  pair-guess = clear .1
 
   pub pair-matches : length g ≡ length x
-  unfolding refusal
-  pair-matches = matching-clear (length x) (length g) (refusal-clear (long limit (length g)) (matching (length x) (length g)) [] (lengths .1) .1)
+  pair-matches = clear .2
 
 pub guess-answer : (A : ℕ) (x g : List ℕ) (n p d : ℕ) (s : ℕ × ℕ) → (n, p) ≡ paired A x g → n ≡ DONE → d ≡ differing (echoes x) (echoes g) → s ≡ named DIFFERS d
     → s ≡ guess-outcome A x g

@@ -8,9 +8,6 @@ use lib.Dec.{leb}
 use lib.ListN.{length, take, drop}
 use lib.Seq.{take-at}
 use borrow.Author.Tests.{eq-eqb}
-use borrow.Fn.Kinds.{PK, RK, Out, Dens, resT, endedOf}
-use contract.Lifetimes.{Lfts}
-use denote.Triple.Clauses.{AtExit}
 use Rattle.words.specs.Rows.{echoes}
 use Rattle.words.specs.Numbers.{DONE, ROOM, unless, over, cards, refusal, rowed}
 use Rattle.words.specs.Sheet.{lines, sheet}
@@ -19,6 +16,7 @@ use Rattle.words.proofs.Checks.{over-cards}
 use Rattle.rows.proofs.Walks.{echoes-long}
 use Rattle.rows.proofs.Alone.{rows-reach, rows-periods, rows-looks}
 use Rattle.sheets.proofs.Reading.{sheet-read}
+use Rattle.corridor.proofs.Runs.{Run}
 use Rattle.corridor.proofs.sheet.Reads as sheet-reads
 use Rattle.corridor.proofs.sheet.Kinds as sheet-kinds
 use Rattle.corridor.proofs.looks.Reads as looks-reads
@@ -49,14 +47,6 @@ module _ (A : ℕ) (x y : List ℕ) (this : over A x ≡ true) (that : over A y 
   guess-alone : (g : List ℕ) → guess-outcome A x g ≡ guess-outcome A y g
   unfolding guess-outcome
   guess-alone g = rw (same, rows-long, rows-cards)
-
--- a run of an entry: its arguments, its result and what is lent at exit, which meet its contract
-pub record Run (n : ℕ) (ps : List (PK n)) (r : RK n) (post : Out n ps r) : Type 0 where
-  pub lives : Lfts n
-  pub args : Dens lives ps
-  pub result : resT r lives .Denot
-  pub exit : AtExit (endedOf n ps r) lives
-  pub meets : post lives args result exit
 
 abbrev pub SheetRun : Type 0
 SheetRun = Run 2 sheet-kinds.ps sheet-kinds.r sheet-reads.Post

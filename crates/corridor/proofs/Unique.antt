@@ -8,8 +8,11 @@ use contract.Lifetimes.{Lfts}
 use denote.Triple.Clauses.{AtExit}
 use Rattle.words.specs.Least.{LeastRow}
 use Rattle.words.specs.Listing.{First, Next}
-use Rattle.words.specs.Outcomes.{Rebuilds, Starts, Steps, refuses, breaks, rebuilds, starts, ends, steps}
+use Rattle.words.specs.Outcomes.{rebuild-rule, first-rule, next-rule, Rebuilds, Starts, Steps, refuses, breaks, rebuilds, starts, ends, steps}
 use Rattle.words.proofs.Order.{least-one}
+use Rattle.arrays.proofs.Meets.{rebuild-meets}
+use Rattle.listing.proofs.Meets.{first-meets, next-meets}
+use Rattle.corridor.proofs.Runs.{Run}
 use Rattle.corridor.proofs.echoes.Reads as echoes
 use Rattle.corridor.proofs.echoes.Kinds as echoes-kinds
 use Rattle.corridor.proofs.looks.Reads as looks
@@ -49,6 +52,10 @@ abbrev Determines : (n : ℕ) (ps : List (PK n)) (r : RK n) → Out n ps r → {
 Determines n ps r post seen =
     (κs : Lfts n) (a : Dens κs ps) (x y : resT r κs .Denot) (s t : AtExit (endedOf n ps r) κs) → post κs a x s → post κs a y t → seen κs x s ≡ seen κs y t
 
+-- every run shows what `rule` says of its arguments
+abbrev Follows : (n : ℕ) (ps : List (PK n)) (r : RK n) → Out n ps r → {T : Type 0} → ((κs : Lfts n) → resT r κs .Denot → AtExit (endedOf n ps r) κs → T) → ((κs : Lfts n) → Dens κs ps → T) → Type 0
+Follows n ps r post seen rule = (p : Run n ps r post) → seen (p .lives) (p .result) (p .exit) ≡ rule (p .lives) (p .args)
+
 -- number, place and the buffer at exit
 pub echoes-determined : Determines 2 echoes-kinds.ps echoes-kinds.r echoes.Post {T = ℕ × ℕ × List ℕ} (λ κs r s. (r .number, r .place, s .1 .1 .0 .now))
 echoes-determined κs a x y s t p q = p ∙ sym q
@@ -57,11 +64,11 @@ echoes-determined κs a x y s t p q = p ∙ sym q
 pub looks-determined : Determines 1 looks-kinds.ps looks-kinds.r looks.Post {T = ℕ × ℕ × ℕ} (λ κs r s. (r .number, r .place, r .count))
 looks-determined κs a x y s t p q = p ∙ sym q
 
--- the bytes of the part that comes back
-pub closing-determined : Determines 1 closing-kinds.ps closing-kinds.r closing.Post {T = List ℕ} (λ κs r s. r .now)
+-- the part that comes back: its bytes and where it begins
+pub closing-determined : Determines 1 closing-kinds.ps closing-kinds.r closing.Post {T = List ℕ × (ℕ × ℕ)} (λ κs r s. (r .now, r .ptr))
 closing-determined κs a x y s t p q = p ∙ sym q
 
-pub joining-determined : Determines 2 joining-kinds.ps joining-kinds.r joining.Post {T = List ℕ} (λ κs r s. r .now)
+pub joining-determined : Determines 2 joining-kinds.ps joining-kinds.r joining.Post {T = List ℕ × (ℕ × ℕ)} (λ κs r s. (r .now, r .ptr))
 joining-determined κs a x y s t p q = p ∙ sym q
 
 pub reach-determined : Determines 2 reach-kinds.ps reach-kinds.r reach.Post {T = ℕ × ℕ × List ℕ} (λ κs r s. (r .number, r .place, s .1 .1 .0 .now))
@@ -95,6 +102,11 @@ rebuilds-one (rebuilds c l e) (rebuilds d m f) = both-same (e ∙ sym f) (least-
 pub rebuild-determined : Determines 2 rebuild-kinds.ps rebuild-kinds.r rebuild.Post {T = ℕ × ℕ × List ℕ} (λ κs r s. (r .number, r .place, s .1 .1 .0 .now))
 rebuild-determined κs a x y s t p q = rebuilds-one p q
 
+-- they are those of the rule
+pub rebuild-follows : Follows 2 rebuild-kinds.ps rebuild-kinds.r rebuild.Post {T = ℕ × ℕ × List ℕ} (λ κs r s. (r .number, r .place, s .1 .1 .0 .now))
+    (λ κs a. rebuild-rule (a .0) (a .1 .0 .now) (a .1 .1 .0 .now))
+rebuild-follows p = rebuilds-one (p .meets) (rebuild-meets (p .args .0) (p .args .1 .0 .now) (p .args .1 .1 .0 .now))
+
 -- counting
 pub count-determined : Determines 0 count-kinds.ps count-kinds.r count.Post {T = ℕ × ℕ × ℕ} (λ κs r s. (r .number, r .place, r .count))
 count-determined κs a x y s t p q = p ∙ sym q
@@ -109,6 +121,10 @@ starts-one (starts c l e) (starts d m f) = both-same (e ∙ sym f) (least-one l 
 
 pub first-determined : Determines 1 first-kinds.ps first-kinds.r first.Post {T = ℕ × ℕ × List ℕ} (λ κs r s. (r .number, r .place, s .1 .1 .0 .now))
 first-determined κs a x y s t p q = starts-one p q
+
+pub first-follows : Follows 1 first-kinds.ps first-kinds.r first.Post {T = ℕ × ℕ × List ℕ} (λ κs r s. (r .number, r .place, s .1 .1 .0 .now))
+    (λ κs a. first-rule (a .0) (a .1 .0) (a .1 .1 .0 .now))
+first-follows p = starts-one (p .meets) (first-meets (p .args .0) (p .args .1 .0) (p .args .1 .1 .0 .now))
 
 -- the next array: an array stands or does not, something is greater or nothing is, and there is one least
 steps-one : {A : ℕ} {e new fresh : List ℕ} {r s : ℕ × ℕ} → Steps A e r new → Steps A e s fresh → told r new ≡ told s fresh
@@ -132,3 +148,7 @@ steps-one (steps c u n e) (steps d v m f) = both-same (e ∙ sym f) (least-one n
 
 pub next-determined : Determines 1 next-kinds.ps next-kinds.r next.Post {T = ℕ × ℕ × List ℕ} (λ κs r s. (r .number, r .place, s .1 .0 .now))
 next-determined κs a x y s t p q = steps-one p q
+
+pub next-follows : Follows 1 next-kinds.ps next-kinds.r next.Post {T = ℕ × ℕ × List ℕ} (λ κs r s. (r .number, r .place, s .1 .0 .now))
+    (λ κs a. next-rule (a .0) (a .1 .0 .now))
+next-follows p = steps-one (p .meets) (next-meets (p .args .0) (p .args .1 .0 .now))

@@ -49,18 +49,19 @@ pub fn looks(a: usize, row: &[u8]) -> Counted
 
 // The closing strip: the part of the row made of its last e[n] cards. All bytes are cards here.
 pub fn closing(row: &[u8]) -> &[u8]
-    ensures { λ r. ⌜ now r ≡ closingOf (now (row .entry)) ⌝ }
+    ensures { λ r. ⌜ (now r, r .ptr) ≡ closingOf (now (row .entry)) (row .entry .ptr) ⌝ }
 {
-    let from = row.len() - tables::closing_length(row);
-    &row[from..]
+    let k = tables::closing_length(row);
+    let d = row.len() - k;
+    rows::part(row, d, k)
 }
 
-// The joining strip: the first cards of the right row that the left row's end equals. All bytes are cards here.
+// The joining strip: the part of the right row made of its first cards, those that the left row's end equals. All bytes are cards here.
 pub fn joining<'l, 'r>(left: &'l [u8], right: &'r [u8]) -> &'r [u8]
-    ensures { λ r. ⌜ now r ≡ joiningOf (now (left .entry)) (now (right .entry)) ⌝ }
+    ensures { λ r. ⌜ (now r, r .ptr) ≡ joiningOf (now (left .entry)) (now (right .entry)) (right .entry .ptr) ⌝ }
 {
     let k = tables::joining_length(left, right);
-    &right[..k]
+    rows::part(right, 0, k)
 }
 
 // Writes the reach table of the row into out, which has as many entries. Numbers 1, 2, 3 and 4.

@@ -1,14 +1,14 @@
 -- The walks and loops in the code's own terms: a lemma for each way out. Assumes nothing.
 use mathlib.Core.Path.{_≡_, refl, sym, ap, subst, _∙_}
 use mathlib.Core.List.{List}
-use Prim.Native.Nat.{ℕ, zero, suc, _+_, _≤_, _<_}
+use Prim.Native.Nat.{ℕ, zero, suc, _+_, _-_, _≤_, _<_}
 use native.Mathlib.Omega.{arith}
 use native.Mathlib.Numerals.{add-one}
-use lib.ListN.{length}
+use lib.ListN.{length, take, drop}
 use borrow.Author.Tests.{eq-eqb, ne-eqb}
 use Rattle.words.specs.Lists.{at, placed}
 use Rattle.words.specs.Rows.{card, Small, echo, echoes, looksFrom, looksAt, looksTo, looks}
-use Rattle.words.specs.Strips.{overlap}
+use Rattle.words.specs.Strips.{part, overlap}
 use Rattle.words.proofs.Lists.{either, same?}
 use Rattle.words.proofs.Places.{each-place, each-only, places-length, placed-long, placed-same, placed-other}
 use Rattle.words.proofs.Rows.{looks-zero, small-alike, alike-sym}
@@ -248,3 +248,8 @@ join-done {x} {y} {e} {b} {i} j h = let z : i ≡ length x = omega (arith, j .wi
 
 pub join-fits : (x y : List ℕ) (r : ℕ) → r ≡ overlap (card x) (length x) (card y) (length y) → r ≤ length y
 join-fits x y r q = let (c, f) = overlap-closes (card x) (length x) (card y) (length y) in omega arith
+
+-- a part from d to d + k has k cards
+pub part-is : (x : List ℕ) (p : ℕ × ℕ) (d k : ℕ) → (take (d + k - d) (drop d x), (p .0, d + p .1)) ≡ part x p d k
+unfolding part
+part-is x p d k = let z : d + k - d ≡ k = omega arith in ap (λ (m : ℕ). (take m (drop d x), (p .0, d + p .1))) z

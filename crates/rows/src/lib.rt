@@ -5,7 +5,7 @@ ghost use lib.ListN.{length};
 ghost use Rattle.words.specs.Lists.{at, placed};
 ghost use Rattle.words.specs.Numbers.{limit};
 ghost use Rattle.words.specs.Rows.{card, echo, echoes as echoesOf, looksFrom, looks as looksOf};
-ghost use Rattle.words.specs.Strips.{overlap as overlapOf};
+ghost use Rattle.words.specs.Strips.{part as partOf, overlap as overlapOf};
 ghost use Rattle.rows.specs.Border.{Known, Filling, grown, resumed};
 
 // The card at place i.
@@ -153,4 +153,13 @@ pub fn row_looks(row: &[u8], table: &mut [u16]) -> usize
 {
     echoes(row, table);
     looks(row, table)
+}
+
+// The part of the row made of k cards behind its first d.
+pub fn part(row: &[u8], d: usize, k: usize) -> &[u8]
+    requires { ⌜ d + k ≤ length (now row) ⌝ }
+    ensures { λ r. ⌜ (now r, r .ptr) ≡ partOf (now (row .entry)) (row .entry .ptr) d k ⌝ }
+{
+    let to = d + k;
+    &row[d..to]
 }

@@ -1,17 +1,17 @@
 -- `corridor::joining`. Assumes nothing.
 use borrow.Author.Needs.{needs}
-use Rattle.corridor.proofs.Entries.{joining-by, part-long}
+use Rattle.corridor.proofs.Entries.{joining-by}
 use Rattle.corridor.proofs.joining.Statement.{statement}
 use Rattle.corridor.proofs.joining.Tie as tie
 
 joining-length-requires : tie.Need-joining-length-requires
 joining-length-requires c κs = search needs
 
-slice-aggregate-result : tie.Need-slice-aggregate-result
-slice-aggregate-result c = search (needs, part-long)
+part-requires : tie.Need-part-requires
+part-requires c κs = search needs
 
 returns : tie.Need-returns
 returns c = search (needs, joining-by)
 
 pub joining-spec : {M : Type 1} → statement M
-joining-spec = tie.close (tie.spec joining-length-requires slice-aggregate-result returns)
+joining-spec = tie.close (tie.spec joining-length-requires part-requires returns)
