@@ -10,7 +10,8 @@ mkdir -p "$out"
 case $(uname -m) in
 aarch64)
     cc=x86_64-linux-gnu-gcc cxx=x86_64-linux-gnu-g++ rustc=/usr/bin/rustc
-    kit=$(dirname "$(dirname "$(rt doc)")")
+    doc=$(rt doc)
+    kit=$(dirname "$(dirname "$doc")")
     # a plain processor: by default the emulator claims fast string instructions, which it takes a byte at a time, and the C library would use them
     emulator="$kit/on/aarch64/toolchain/bin/qemu-x86_64 -cpu qemu64"
     ;;

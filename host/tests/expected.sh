@@ -3,15 +3,17 @@
 # limit, and of the walks over all arrays of six places. The figures are worked out here, from the definitions alone, and never read from a run.
 #
 # A list of over 20 numbers stands there by its last one, the word `sum`, and each entry times its place (from 1) summed up; a text of over 100 bytes by its
-# last three bytes and the same sum of its bytes. Every line with such a sum must be one of these here, and every other line that is worked out here too.
+# last three bytes and the same sum of its bytes. Every line of those outputs that has a sum must be worked out here, and every line that is worked out here
+# must be there, in this order.
 # - Echoes, reach, looks, periods and strips: each by the definition of its word, card by card, and not by a rule for it.
 # - The arrays of six places: every row of six cards over A is written down with its echoes. A row of six has at most six letters, and echoes ask only which
 #   cards are equal, so over A 26 the rows over six letters have all of them. The listing is then every array 0 .. i - 1 at place i, in dictionary order,
 #   that a row has.
 # - A refused buffer is as it was: all sevens, all dots, or the array that was lent.
 # - 0 1 2 .. at the limit: it is the greatest of all arrays, since no echo of place i is over i - 1, so none is next. Only cards that are all alike have it, and
-#   the least such row is all `a`. Behind 4,095 cards that are all alike the echo is 4,095 or 0, so 4,094 does not stand, and what is next to a 0 there is 4,095;
-#   the least row with that 0 is 4,095 `a` and a `b`, and over one letter there is none.
+#   the least such row is all `a`. Behind 4,095 cards that are all alike the echo is 4,095 or 0, so what is next to a 0 there is 4,095; the least row with that
+#   0 is 4,095 `a` and a `b`, and over one letter there is none: 7. Of the others there, 4,094 is possible and hidden (by 4,095, whose echo it is): 6; 4,096 is
+#   not possible: 5.
 # - The first array over A >= 2 is all zeros, since a row has it: `a` and then `b` alone. The least of all that are greater ends in 1: the same row with its last
 #   card an `a`. Over one letter there is one row, and its array is the first and the last.
 set -u
