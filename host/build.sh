@@ -1,6 +1,6 @@
 #!/bin/sh
-# build.sh NAME..: builds host/NAME.c or host/NAME.rs with the archive of crates/host into target/host/NAME, a static x86-64 program.
-# On Arm that file is a line that has the kit's emulator run it.
+# build.sh NAME..: builds host/NAME.c or host/NAME.rs with the archive of crates/host into target/host/NAME, a static x86-64 program. The name `example` is
+# the C example of docs/HOST.md, taken out of the document. On Arm that file is a line that has the kit's emulator run it.
 set -eu
 cd "$(dirname "$0")/.."
 out=target/host
@@ -10,7 +10,8 @@ mkdir -p "$out"
 case $(uname -m) in
 aarch64)
     cc=x86_64-linux-gnu-gcc cxx=x86_64-linux-gnu-g++ rustc=/usr/bin/rustc
-    kit=$(dirname "$(dirname "$(rt doc)")")
+    doc=$(rt doc)
+    kit=$(dirname "$(dirname "$doc")")
     # a plain processor: by default the emulator claims fast string instructions, which it takes a byte at a time, and the C library would use them
     emulator="$kit/on/aarch64/toolchain/bin/qemu-x86_64 -cpu qemu64"
     ;;
@@ -24,17 +25,27 @@ quietly() { # COMMAND..: what it says counts only where it fails
     }
 }
 
+example() { # the indented lines under the document's heading
+    awk '/^#/ { under = $0 == "## An example" } under && /^(    |$)/ { print substr($0, 5) }' docs/HOST.md
+}
+
+c_program() { # FILE PROGRAM: the header is plain C89, and C++ takes it
+    for standard in c89 c99 c11; do
+        "$cc" -std=$standard -pedantic -Wall -Wextra -Werror -Iinclude -x c -fsyntax-only "$1"
+    done
+    "$cxx" -pedantic -Wall -Wextra -Werror -Iinclude -x c++ -fsyntax-only "$1"
+    "$cc" -std=c89 -O2 -static -Iinclude -o "$2" "$1" "$archive"
+}
+
 quietly rt staticlib host
-# the header is plain C89, and C++ takes it
-for standard in c89 c99 c11; do
-    "$cc" -std=$standard -pedantic -Wall -Wextra -Werror -Iinclude -x c -fsyntax-only host/loader.c
-done
-"$cxx" -pedantic -Wall -Wextra -Werror -Iinclude -x c++ -fsyntax-only host/loader.c
 
 for name in "$@"; do
     program=$out/$name.x86-64
-    if [ -e "host/$name.c" ]; then
-        "$cc" -std=c89 -O2 -static -Iinclude -o "$program" "host/$name.c" "$archive"
+    if [ "$name" = example ]; then
+        example >"$out/example.c"
+        c_program "$out/example.c" "$program"
+    elif [ -e "host/$name.c" ]; then
+        c_program "host/$name.c" "$program"
     else
         # jumps are kept off the 32-byte lines: on some processors one that crosses a line is slow, and a benchmark would measure where they happen to lie
         "$rustc" -O -C panic=abort -C llvm-args=-x86-branches-within-32B-boundaries --edition 2021 --crate-type staticlib --target x86_64-unknown-linux-gnu -o "$out/lib$name.a" "host/$name.rs"

@@ -1,7 +1,7 @@
 // An independent check of the C functions, through the archive. Nothing here is the library's: short arrays are judged by the definition alone (every
 // row is written down and its echoes compared card by card), long ones by figures 1 and 2 of "Verifying a Border Array in Linear Time" (Franek, Gao, Lu,
 // Ryan, Smyth, Sun, Yang, 2000), the second with its last `b <- i - 1` behind the second loop, where it ends. The inputs are the same in every run.
-// `check` runs for the gate; `check long` judges more than a million arrays.
+// The gate runs `check long`: over three million inputs, and every count. `check` alone tries fewer, for a quick look.
 use std::collections::HashSet;
 
 extern "C" {
@@ -163,7 +163,8 @@ fn definitions(t: &mut Tally, most: usize) {
 
 // ---- by the paper; y[0] is not used
 
-fn zero_is_valid(y: &[usize], v: &mut [bool], i: usize, alpha: usize) -> bool {
+// Figure 2 up to its last line: how many values above 0 are valid at place i.
+fn extensions(y: &[usize], v: &mut [bool], i: usize) -> usize {
     let mut k = 0;
     let mut b = i - 1;
     while b != 0 {
@@ -189,13 +190,13 @@ fn zero_is_valid(y: &[usize], v: &mut [bool], i: usize, alpha: usize) -> bool {
         b = y[b];
         v[b + 1] = false;
     }
-    extensions < alpha
+    extensions
 }
 
 // The number of place i: 0 where the figure returns TRUE, else which of its tests returned FALSE.
 fn valid(y: &[usize], v: &mut [bool], i: usize, alpha: usize) -> u64 {
     if y[i] == 0 {
-        return if zero_is_valid(y, v, i, alpha) { 0 } else { 7 };
+        return if extensions(y, v, i) < alpha { 0 } else { 7 };
     }
     let mut b = y[i - 1];
     while b > 0 && y[i] != b + 1 {
@@ -431,10 +432,38 @@ fn null(t: &mut Tally) {
 
 // ---- counts
 
-// The counts over 26 letters from n = 11 on; those before are counted here.
-const MANY: [u64; 10] = [3701, 9039, 22140, 54460, 134339, 332439, 824735, 2051307, 5113298, 12773067];
+// Of the arrays with n places, how many stand over l letters and over no fewer.
+type Fewest = [[u64; LETTERS + 1]; COUNT_LIMIT + 1];
 
-fn counts(t: &mut Tally, counted: usize, all: bool) {
+// Depth first over all values, each judged by the paper: y, which stands over so many letters and no fewer, and all that is behind it up to `most` places.
+// A zero is valid over one letter more than there are valid values above 0, and over no fewer.
+fn fewest_by_paper(y: &mut Vec<usize>, v: &mut [bool], letters: usize, most: usize, tally: &mut Fewest) {
+    let i = y.len();
+    tally[i - 1][letters] += 1;
+    if i > most {
+        return;
+    }
+    for m in 0..i {
+        y.push(m);
+        let needed = if i == 1 {
+            1
+        } else if m == 0 {
+            letters.max(extensions(y, v, i) + 1)
+        } else if valid(y, v, i, LETTERS) == 0 {
+            letters
+        } else {
+            LETTERS + 1
+        };
+        if needed <= LETTERS {
+            fewest_by_paper(y, v, needed, most, tally);
+        }
+        y.pop();
+    }
+}
+
+// The counts of all alphabets at once up to n = most, and those up to `counted` once more, an alphabet at a time. What is counted here at n = most over 26, 3, 2
+// and 1 letters is printed in the form of crates/cases_listing/stdout.
+fn counts(t: &mut Tally, counted: usize, most: usize) {
     for a in sizes() {
         for n in sizes() {
             if a == 0 || a > LETTERS {
@@ -450,13 +479,17 @@ fn counts(t: &mut Tally, counted: usize, all: bool) {
         t.count(1, n, (0, 1));
         t.count(2, n, (0, 1 << (n - 1)));
     }
-    // no array of up to 20 places needs more than 5 letters
-    for a in if all { 5..=LETTERS } else { 25..=LETTERS } {
-        for n in 11..=COUNT_LIMIT {
-            t.count(a, n, (0, MANY[n - 11]));
+    let mut tally = [[0; LETTERS + 1]; COUNT_LIMIT + 1];
+    fewest_by_paper(&mut vec![0], &mut [false; 32], 0, most, &mut tally);
+    let count = |a: usize, n: usize| tally[n][..=a].iter().sum::<u64>();
+    for a in 1..=LETTERS {
+        for n in 0..=most {
+            t.count(a, n, (0, count(a, n)));
         }
     }
-    t.count(3, 20, (0, 12123877));
+    for a in [26, 3, 2, 1] {
+        println!("n {}, A {}\t0\t0\t{}", most, a, count(a, most));
+    }
 }
 
 #[no_mangle]
@@ -470,7 +503,7 @@ pub extern "C" fn main() -> i32 {
     definitions(&mut t, if long { 7 } else { 6 });
     each_place(&mut t, &mut d, if long { 300 } else { 30 });
     long_arrays(&mut t, &mut d, if long { 400_000 } else { 60_000 });
-    counts(&mut t, if long { 13 } else { 11 }, long);
+    counts(&mut t, if long { 13 } else { 11 }, if long { COUNT_LIMIT } else { 14 });
     println!("{} inputs, each answered as it should be", t.inputs);
     0
 }

@@ -1,6 +1,7 @@
 /*
- * A small loader: it judges the echoes of a save and says what it would tell the player. Then every other way in which an answer can come back.
- * What it prints is compared with loader.expected, which was written by hand from the rules.
+ * A small loader: it judges the echoes of a save and says what it would tell the player. Then every other way in which an answer can come back, and both sides
+ * of each limit, by the header's name for it. What it prints is compared with loader.expected, which was written by hand from the rules, and each name of the
+ * header's two enums with another value would change it.
  */
 #include <stdio.h>
 
@@ -83,7 +84,7 @@ static unsigned char all_a[2 * (CLAYBOBBIN_LIMIT + 1)];
 
 static void judge_saves(void)
 {
-    struct save saves[14];
+    struct save saves[16];
     int i;
 
     for (i = 0; i <= CLAYBOBBIN_LIMIT; i++) {
@@ -100,6 +101,8 @@ static void judge_saves(void)
     SAVE("an echo of 257", 2, 2, high, sizeof high);
     SAVE("an empty corridor", 1, 0, NULL, 0);
     SAVE("no rune set", 0, 0, NULL, 0);
+    SAVE("as many runes as there are", CLAYBOBBIN_LETTERS, 12, zero, sizeof zero);
+    SAVE("one rune more", CLAYBOBBIN_LETTERS + 1, 12, zero, sizeof zero);
     SAVE("27 runes", 27, 12, zero, sizeof zero);
     SAVE("259 runes", 259, 12, zero, sizeof zero);
     SAVE("a save of nothing", 3, 12, NULL, 0);
@@ -108,7 +111,7 @@ static void judge_saves(void)
     SAVE("one more", 1, CLAYBOBBIN_LIMIT + 1, all_a, sizeof all_a);
     SAVE("half of all numbers", 1, (size_t)1 << 63, NULL, 0);
 #undef SAVE
-    for (i = 0; i < 14; i++)
+    for (i = 0; i < 16; i++)
         tell(&saves[i]);
 }
 
@@ -124,5 +127,9 @@ int main(void)
     tell_count(26, 21);
     tell_count(0, 4);
     tell_count(27, 21);
+    tell_count(CLAYBOBBIN_LETTERS, 4);
+    tell_count(CLAYBOBBIN_LETTERS + 1, 4);
+    tell_count(2, CLAYBOBBIN_COUNT_LIMIT);
+    tell_count(2, CLAYBOBBIN_COUNT_LIMIT + 1);
     return 0;
 }

@@ -1,10 +1,36 @@
 #!/bin/sh
-# The host side: the C example prints what was written by hand, the independent check finds no difference, and the benchmark still runs (a round of it,
-# whose figures nobody judges). HOST_CHECK=short has the check judge fewer arrays than the three million of the gate.
+# The host side: the C loader prints what was written by hand, the example of docs/HOST.md what it says there, the independent check finds no difference among
+# over three million inputs and counts 20 places as the expected output of cases_listing has it, and the benchmark still runs (a round of it, whose figures nobody
+# judges). Each program has to end with status 0; what it printed is compared after that.
 set -eu
 cd "$(dirname "$0")/../.."
-sh host/build.sh loader check bench
-target/host/loader | diff - host/loader.expected
+out=target/host
+sh host/build.sh loader example check bench
+
+run() { # NAME ARGUMENT..: runs the program into NAME.out
+    name=$1
+    shift
+    "$out/$name" "$@" >"$out/$name.out" || {
+        echo "host: $name ended with status $?"
+        cat "$out/$name.out"
+        exit 1
+    }
+}
+
+run loader
+diff "$out/loader.out" host/loader.expected
 echo "host: the loader says what it should"
-target/host/check "${HOST_CHECK:-long}"
-target/host/bench 1 >/dev/null
+
+run example
+echo 'this corridor stands' >"$out/example.expected"
+diff "$out/example.out" "$out/example.expected"
+echo "host: the example of docs/HOST.md says what it should"
+
+run check long
+cat "$out/check.out"
+grep '^n 20, A ' "$out/check.out" >"$out/counts.out"
+grep '^n 20, A ' crates/cases_listing/stdout >"$out/counts.expected"
+diff "$out/counts.out" "$out/counts.expected"
+echo "host: crates/cases_listing/stdout has the counts of 20 places that the check counted"
+
+run bench 1

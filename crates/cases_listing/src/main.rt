@@ -1,4 +1,6 @@
-// Counting, the first array and the next.
+// Counting, the first array and the next. The walks and the sums of long lists are worked out from the definitions by host/tests/expected.sh; the counts over
+// 26 letters for n up to 10 are published in 001, those over 1 and 2 letters are 01's, and those for n 20 over 3 and 26 letters are counted by 001's figures in
+// host/check.rs, which host/tests/host.sh compares with the expected output.
 use show::rise;
 use show::set_last;
 
@@ -137,6 +139,8 @@ fn at_the_limit() {
     long_steps(1, &mut e);
     let mut e = [7u16; 4097];
     next(b"4097", 2, &mut e);
+    let mut e = [7u16; 4097];
+    first(b"first, 4097", 2, 4097, &mut e);
 }
 
 fn main() {

@@ -1,4 +1,6 @@
-// From cards: echoes, looks and strips.
+// From cards: echoes, looks and strips. The sums of long lists and texts, and the looks at the limit, are worked out from the definitions by
+// host/tests/expected.sh.
+
 // A label, what echoes answers, and the buffer that it leaves.
 fn echoes_in(label: &[u8], a: usize, row: &[u8], out: &mut [u16]) {
     let r = corridor::echoes(a, row, out);
@@ -24,13 +26,13 @@ fn looks(label: &[u8], a: usize, row: &[u8]) {
 
 fn closing(row: &[u8]) {
     show::word(b"closing\t");
-    show::word(corridor::closing(row));
+    show::text(corridor::closing(row));
     show::end();
 }
 
 fn joining(left: &[u8], right: &[u8]) {
     show::word(b"joining\t");
-    show::word(corridor::joining(left, right));
+    show::text(corridor::joining(left, right));
     show::end();
 }
 
@@ -151,10 +153,19 @@ fn strips_3() {
     joining(b"aa", &many);
 }
 
+fn strips_4() {
+    let long = [97u8; 4096];
+    closing(&long);
+    joining(&long, &long);
+    joining(&long, b"aa");
+    joining(b"aa", &long);
+}
+
 fn strips() {
     strips_1();
     strips_2();
     strips_3();
+    strips_4();
 }
 
 fn main() {

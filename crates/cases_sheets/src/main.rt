@@ -1,4 +1,5 @@
-// Reach, sheets and guesses.
+// Reach, sheets and guesses. The sums of long lists and texts are worked out from the definitions by host/tests/expected.sh.
+
 // A label, what reach answers, and the table that it leaves.
 fn reach_in(label: &[u8], a: usize, row: &[u8], out: &mut [u16]) {
     let r = corridor::reach(a, row, out);
@@ -28,8 +29,8 @@ fn sheet_in(label: &[u8], a: usize, row: &[u8], buf: &mut [u8]) {
 }
 
 fn sheet(label: &[u8], a: usize, row: &[u8], dots: usize) {
-    let mut buf = [b'.'; 100];
-    if dots <= 100 {
+    let mut buf = [b'.'; 61500];
+    if dots <= 61500 {
         sheet_in(label, a, row, &mut buf[..dots]);
     }
 }
@@ -78,9 +79,17 @@ fn texts_2() {
     sheet(b"bad card, no room", 2, b"abc", 10);
 }
 
+// At the limit: the room that is enough for every sheet, and one byte less than this one has.
+fn texts_3() {
+    let long = [97u8; 4096];
+    sheet(b"4096 a", 26, &long, 61500);
+    sheet(b"4096 a, one short", 26, &long, 58154);
+}
+
 fn texts() {
     texts_1();
     texts_2();
+    texts_3();
 }
 
 fn guesses_1() {

@@ -26,6 +26,12 @@ wide-requires c κs = search needs
 number-requires : tie.Need-number-requires Inv-loop μ-loop
 number-requires c κs = search needs
 
+places-requires : tie.Need-places-requires Inv-loop μ-loop
+places-requires c κs = search needs
+
+sum-requires : tie.Need-sum-requires Inv-loop μ-loop
+sum-requires c κs = search needs
+
 returns : tie.Need-returns Inv-loop μ-loop
 returns c = search needs
 
@@ -67,6 +73,8 @@ list-spec =
     shared-slice-read-wide
     wide-requires
     number-requires
+    places-requires
+    sum-requires
     returns
     loop-holds
     mul-wide-2
