@@ -23,12 +23,9 @@ passed=0 failed=0
 
 run() { ${emulator:+"$emulator"} "$loader" --library-path "$tools/lib" "$program"; }
 
-# WHAT: what the program prints for the file `in` must be the file `want`
-same() {
-    if ! run <"$room/in" >"$room/got"; then
-        echo "sheet.sh: $1: the program failed"
-        failed=$((failed + 1))
-    elif cmp -s "$room/got" "$room/want"; then
+# WHAT: what the program printed must be the file `want`
+agree() {
+    if cmp -s "$room/got" "$room/want"; then
         passed=$((passed + 1))
     else
         failed=$((failed + 1))
@@ -36,6 +33,27 @@ same() {
         head -c 300 "$room/want"
         echo "sheet.sh: $1: got"
         head -c 300 "$room/got"
+    fi
+}
+
+# WHAT: what the program prints for the file `in` must be the file `want`
+same() {
+    if run <"$room/in" >"$room/got"; then
+        agree "$1"
+    else
+        echo "sheet.sh: $1: the program failed"
+        failed=$((failed + 1))
+    fi
+}
+
+# WHAT: the same where the file comes through a pipe
+piped() {
+    # shellcheck disable=SC2002
+    if cat "$room/in" | run >"$room/got"; then
+        agree "$1"
+    else
+        echo "sheet.sh: $1: the program failed"
+        failed=$((failed + 1))
     fi
 }
 
@@ -143,11 +161,46 @@ refused_row '200000 a and a tab' 1 200000 '\t' 1 0
 refused_row '200000 a, byte 10 and a tab' 1 200000 '\n\t' 2 0
 refused_row 'letters for A before 200000 a' aaa 200000 '\n' 1 0
 
+# the same, from a file and through a pipe: a second tab is seen though it is megabytes behind the first
+refused_ways() {
+    refused_row "$@"
+    piped "$1, through a pipe"
+}
+
+refused_ways '3000000 a and a tab' 1 3000000 '\t\n' 1 0
+refused_ways '3000000 a and a tab without byte 10' 1 3000000 '\t' 1 0
+refused_ways '3000000 a' 1 3000000 '\n' 2 0
+refused_ways '3000000 a without byte 10' 1 3000000 '' 2 0
+
 # the same line in pieces as they come through a pipe
 { printf '0' && sleep 1 && printf '3\tab' && sleep 1 && printf 'aab' && sleep 1 && printf '\n'; } | run >"$room/got"
 # shellcheck disable=SC2059
 printf "$abaab" >"$room/want"
-if cmp -s "$room/got" "$room/want"; then passed=$((passed + 1)); else failed=$((failed + 1)); echo "sheet.sh: pieces through a pipe differ"; fi
+agree 'pieces through a pipe'
+
+# 197 a and a b over A 2, byte by byte: the echo of place i is i - 1 and its reach 198 - i, but place 1 has reach 198 and place 198 has neither; no border, so no
+# period; one look at each place of an a behind the first, and one at each of the 197 values from 196 down to 0 for the b
+awk 'BEGIN {
+    printf "sheet\t198\t2\necho"
+    for (i = 1; i <= 197; i++) printf "\t%d", i - 1
+    printf "\t0\nreach\t198"
+    for (i = 2; i <= 197; i++) printf "\t%d", 198 - i
+    printf "\t0\nperiods\nlooks\t%d\n", 196 + 197
+}' >"$room/want"
+
+# TAIL: the line and then the tail, each byte written by itself; starting a program behind each gives the reader its time
+bytes() {
+    for byte in 2 '\t' $(awk 'BEGIN { for (i = 1; i <= 197; i++) print "a" }') b "$@"; do
+        # shellcheck disable=SC2059
+        printf "$byte"
+        env true
+    done
+}
+
+bytes '\n' | run >"$room/got"
+agree '201 pieces through a pipe'
+bytes | run >"$room/got"
+agree '200 pieces through a pipe and the end of input'
 
 echo "sheet.sh: $passed agree, $failed differ"
 [ "$failed" -eq 0 ]

@@ -12,10 +12,11 @@ use borrow.Author.Tests.{ltb-true, ltb-false, lt-ltb, le-ltb}
 use Rattle.words.specs.Numbers.{DONE, ALPHABET}
 use Rattle.words.specs.Sheet.{value}
 use Rattle.lines.specs.Line.{TAB, END, until, past, count, lineOf, digit, meaning}
-use Rattle.lines.specs.Taking.{figures, Shown, Stored, Taken, Ready, Starts, Counts, Grows, Stores, Takes, Means, Tells}
+use Rattle.lines.specs.Taking.{figures, Shown, Stored, Taken, gave, Read, Starts, Counts, Grows, Stores, Takes, Reads, Means, Tells}
 use Rattle.lines.specs.declared.Figures.{Figures}
 use Rattle.lines.specs.declared.State.{State}
 use Rattle.lines.specs.declared.Line.{Line}
+use Rattle.words.proofs.Lists.{not-both}
 use Rattle.words.proofs.Decimal.{value-snoc}
 use Rattle.lines.proofs.Lines.{count-more, count-one, count-other, until-met, until-here, until-snoc, past-met, past-open, figures-nil, figures-digit, figures-many, figures-other, numeral-yes, numeral-out, meaning-good, meaning-tabs, meaning-field}
 
@@ -221,12 +222,48 @@ module _ (s : State) where
   pub tells-many : 2 < s .field .digits → Tells s (record { number = ALPHABET; a = 0; length = 0 })
   tells-many z = bad (λ input buf h. meaning-field (lineOf input) (λ t. omega (arith, h .field .digits, numeral-out (until TAB (lineOf input)) t)))
 
--- for a caller that has taken some input
-pub ready-start : (s : State) (buf : List ℕ) → Starts s → Ready s buf
-ready-start s buf h = record { input = []; taken = h .none buf }
+-- what one read gave
+pub gave-none : (p : List ℕ) (s r : State) (old new : List ℕ) → length p ≡ 0 → Takes (END ∷ []) s old r new → Takes (gave p) s old r new
+unfolding gave
+gave-none [] s r old new z t = t
+gave-none (b ∷ p) s r old new z t = absurd (omega arith)
 
-pub ready-more : (piece : List ℕ) (s r : State) (old new : List ℕ) → Ready s old → Takes piece s old r new → Ready r new
-ready-more piece s r old new h t = record { input = h .input ++ piece; taken = t .more (h .input) (h .taken) }
+pub gave-some : (p : List ℕ) (s r : State) (old new : List ℕ) → (length p ≡ 0 → ⊥) → Takes p s old r new → Takes (gave p) s old r new
+unfolding gave
+gave-some [] s r old new d t = absurd (d refl)
+gave-some (b ∷ p) s r old new d t = t
 
-pub ready-within : (s : State) (l : Line) (buf : List ℕ) → Ready s buf → Tells s l → l .length ≤ length buf
-ready-within s l buf h t = omega (arith, t .means (h .input) buf (h .taken) .row .count)
+-- each read takes the line a byte further at least
+gave-long : (p : List ℕ) → 0 < length (gave p)
+unfolding gave
+gave-long [] = omega arith
+gave-long (b ∷ p) = omega arith
+
+-- a line that has not ended had not ended before
+still-going : (input more : List ℕ) (s r : State) (old new : List ℕ) → Taken input s old → Taken (input ++ more) r new → r .ended ≡ false → s .ended ≡ false
+still-going input more s r old new h g e =
+    let z = ltb-false 0 (count END (input ++ more)) (sym (g .ended) ∙ e) in
+    h .ended ∙ le-ltb 0 (count END input) (omega (arith, count-more END input more))
+
+-- for a caller that reads in n turns, of which t are left: before the first, one turn further, with none left, and where the line has ended
+pub read-start : (s : State) (buf : List ℕ) → Starts s → Read 0 s buf
+read-start s buf h = record { input = []; taken = h .none buf; long = λ e. omega arith }
+
+pub read-more : (n t : ℕ) (s r : State) (old new : List ℕ) → Read (n - t) s old → 0 < t → Reads s old r new → Read (n - (t - 1)) r new
+read-more n t s r old new h w d =
+    let p = gave (d .piece) in
+    let g = d .takes .more (h .input) (h .taken) in
+    record {
+      input = h .input ++ p;
+      taken = g;
+      long = λ e. omega (arith, length-append (h .input) p, gave-long (d .piece), h .long (still-going (h .input) p s r old new (h .taken) g e));
+    }
+
+pub read-all : (n t : ℕ) (s : State) (buf : List ℕ) → Read (n - t) s buf → t ≤ 0 → Read n s buf
+read-all n t s buf h z = record { input = h .input; taken = h .taken; long = λ e. omega (arith, h .long e) }
+
+pub read-ended : (k n : ℕ) (s : State) (buf : List ℕ) → Read k s buf → s .ended ≡ true → Read n s buf
+read-ended k n s buf h y = record { input = h .input; taken = h .taken; long = λ e. absurd (not-both y e) }
+
+pub read-within : (k : ℕ) (s : State) (l : Line) (buf : List ℕ) → Read k s buf → Tells s l → l .length ≤ length buf
+read-within k s l buf h t = omega (arith, t .means (h .input) buf (h .taken) .row .count)

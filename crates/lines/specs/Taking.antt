@@ -1,8 +1,8 @@
 -- What the state holds of the input taken so far, however it was cut into pieces. Assumes nothing: these are definitions.
 use mathlib.Core.Path.{_≡_}
-use mathlib.Core.Bool.{cond}
+use mathlib.Core.Bool.{false, cond}
 use mathlib.Core.List.{List, [], _∷_, _++_}
-use Prim.Native.Nat.{ℕ, _+_, _*_, _<_, min}
+use Prim.Native.Nat.{ℕ, _+_, _*_, _≤_, _<_, min}
 use lib.Dec.{ltb}
 use lib.ListN.{length, take}
 use Rattle.words.specs.Lists.{every}
@@ -35,10 +35,16 @@ pub record Taken (input : List ℕ) (s : State) (buf : List ℕ) : Type 0 where
   pub field : Shown (until TAB (lineOf input)) (s .field)
   pub row : Stored (past TAB (lineOf input)) (s .length) buf
 
--- s and the buffer are the state behind some input
-pub record Ready (s : State) (buf : List ℕ) : Type 0 where
+-- what a read says of the line: the bytes that it gave; one that gave none is at the end of input, which ends the line as byte 10 does
+unfoldable pub gave : List ℕ → List ℕ
+gave [] = END ∷ []
+gave (b ∷ l) = b ∷ l
+
+-- s and the buffer are the state behind some input, which has at least k bytes where its line has not ended
+pub record Read (k : ℕ) (s : State) (buf : List ℕ) : Type 0 where
   pub input : List ℕ
   pub taken : Taken input s buf
+  pub long : s .ended ≡ false → k ≤ length input
 
 -- r is the state of each part one byte further, and of all a piece further
 pub record Counts (b tabs r : ℕ) : Type 0 where
@@ -52,6 +58,11 @@ pub record Stores (b n : ℕ) (old : List ℕ) (r : ℕ) (new : List ℕ) : Type
 
 pub record Takes (piece : List ℕ) (s : State) (old : List ℕ) (r : State) (new : List ℕ) : Type 0 where
   pub more : (input : List ℕ) → Taken input s old → Taken (input ++ piece) r new
+
+-- r is the state one read further, whatever the read gave
+pub record Reads (s : State) (old : List ℕ) (r : State) (new : List ℕ) : Type 0 where
+  pub piece : List ℕ
+  pub takes : Takes (gave piece) s old r new
 
 -- r is the state before the first byte, whatever the buffer holds
 pub record Starts (r : State) : Type 0 where

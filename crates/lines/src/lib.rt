@@ -6,7 +6,7 @@ ghost use mathlib.Core.Path.{_≡_};
 ghost use mathlib.Core.List.{[], _∷_};
 ghost use Prim.Native.Nat.{_<_};
 ghost use Rattle.lines.specs.Line.{digit};
-ghost use Rattle.lines.specs.Taking.{Starts, Counts, Grows, Stores, Takes, Tells};
+ghost use Rattle.lines.specs.Taking.{gave, Starts, Counts, Grows, Stores, Takes, Tells};
 
 const TAB: u8 = 9;
 
@@ -143,6 +143,16 @@ pub fn taken(s: State, row: &mut [u8], piece: &[u8]) -> State
         i += 1;
     }
     t
+}
+
+// The state behind what one read gave. One that gave nothing is at the end of input, which ends the line as byte 10 does.
+pub fn after_read(s: State, row: &mut [u8], piece: &[u8]) -> State
+    ensures { λ r. ⌜ Takes (gave (now (piece .entry))) s (now (row .entry)) r (now (row .exit)) ⌝ }
+{
+    if piece.len() == 0 {
+        return taken(s, row, b"\n");
+    }
+    taken(s, row, piece)
 }
 
 fn wide(x: u8) -> usize

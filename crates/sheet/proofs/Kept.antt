@@ -1,5 +1,6 @@
 -- A row of which more cards than the limit are kept is answered as it is whole. Assumes nothing.
 use mathlib.Core.Path.{_≡_, sym, ap, subst, _∙_}
+use mathlib.Core.Bool.{true}
 use mathlib.Core.List.{List, [], _∷_, _++_}
 use Prim.Native.Nat.{ℕ, _+_, _≤_, _<_}
 use native.Mathlib.Omega.{arith}
@@ -14,10 +15,10 @@ use Rattle.words.proofs.Lists.{which, either, same?}
 use Rattle.words.proofs.Checks.{cleared, long-over, refusal-stop, sizes-clear}
 use Rattle.corridor.proofs.Entries.{sheet-refused}
 use Rattle.lines.specs.Line.{lineOf, meaning}
-use Rattle.lines.specs.Taking.{Ready, Tells}
+use Rattle.lines.specs.Taking.{Read, Tells}
 use Rattle.lines.specs.declared.State.{State}
 use Rattle.lines.specs.declared.Line.{Line}
-use Rattle.lines.proofs.Pieces.{ready-within}
+use Rattle.lines.proofs.Pieces.{read-within}
 use Rattle.sheet.specs.Outcome.{line-outcome, Answers}
 
 -- of a row over the limit only A is told
@@ -39,16 +40,18 @@ kept-outcome A n x old h = either (which (leb (length x) n))
     (λ f. let l = leb-false (length x) n f in sym (over A (take n x) old (omega (arith, length-take n x))) ∙ over A x old (omega arith))
 
 -- the two ways out of `reply`
-module _ (s : State) (l : Line) (row old : List ℕ) (tells : Tells s l) where
+module _ (s : State) (l : Line) (row old : List ℕ) (ended : s .ended ≡ true) (tells : Tells s l) where
   pub answers-line : (l .number ≡ DONE → ⊥) → Answers s row old (l .number, 0, 0, old)
   unfolding line-outcome
   answers-line d = record {
+    ended = ended;
     told = λ input h. let e = tells .means input row h .number in rw (ne-eqb (meaning (lineOf input) .0) DONE (λ z. d (e ∙ z))) (rw e);
   }
 
   pub answers-sheet : l .number ≡ DONE → limit < length row → (r : ℕ × ℕ × ℕ × List ℕ) → r ≡ sheet-outcome (l .a) (take (l .length) row) old → Answers s row old r
   unfolding line-outcome
   answers-sheet z w r e = record {
+    ended = ended;
     told = λ input h.
         let m = tells .means input row h in
         rw (eq-eqb (meaning (lineOf input) .0) DONE (sym (m .number) ∙ z))
@@ -73,12 +76,12 @@ line-within input old = either (same? (meaning (lineOf input) .0) DONE)
     (λ z. rw (eq-eqb (meaning (lineOf input) .0) DONE z) (outcome-within (meaning (lineOf input) .1) (meaning (lineOf input) .2) old))
     (λ d. rw (ne-eqb (meaning (lineOf input) .0) DONE d) (omega arith))
 
-module _ (s : State) (row old new : List ℕ) (n p k : ℕ) (ready : Ready s row) (answers : Answers s row old (n, p, k, new)) where
+module _ (s : State) (row old new : List ℕ) (n p k : ℕ) (read : Read 0 s row) (answers : Answers s row old (n, p, k, new)) where
   pub answers-within : k ≤ length new
-  answers-within = subst (λ (r : ℕ × ℕ × ℕ × List ℕ). r .2 ≤ length (r .3)) (sym (answers .told (ready .input) (ready .taken))) (line-within (ready .input) old)
+  answers-within = subst (λ (r : ℕ × ℕ × ℕ × List ℕ). r .2 ≤ length (r .3)) (sym (answers .told (read .input) (read .taken))) (line-within (read .input) old)
 
   pub answers-part : length (take k new) ≡ k
   answers-part = length-take-le k new answers-within
 
-pub ready-part : (s : State) (l : Line) (row : List ℕ) → Ready s row → Tells s l → length (take (l .length) row) ≡ l .length
-ready-part s l row h t = length-take-le (l .length) row (ready-within s l row h t)
+pub read-part : (s : State) (l : Line) (row : List ℕ) → Read 0 s row → Tells s l → length (take (l .length) row) ≡ l .length
+read-part s l row h t = length-take-le (l .length) row (read-within 0 s l row h t)

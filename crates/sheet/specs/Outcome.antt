@@ -1,6 +1,6 @@
 -- What the program answers. Assumes nothing: these are definitions.
 use mathlib.Core.Path.{_≡_}
-use mathlib.Core.Bool.{cond}
+use mathlib.Core.Bool.{true, cond}
 use mathlib.Core.List.{List}
 use Prim.Native.Nat.{ℕ}
 use lib.Dec.{eqb}
@@ -17,6 +17,7 @@ line-outcome input old =
     let told = sheet-outcome (m .1) (m .2) old in
     cond (eqb (m .0) DONE) told (m .0, 0, 0, old)
 
--- r is the outcome for every input that s and the row kept of it stand for
+-- the line has ended, and r is the outcome for every input that s and the row kept of it stand for
 pub record Answers (s : State) (row old : List ℕ) (r : ℕ × ℕ × ℕ × List ℕ) : Type 0 where
+  pub ended : s .ended ≡ true
   pub told : (input : List ℕ) → Taken input s row → r ≡ line-outcome input old

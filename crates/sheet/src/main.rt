@@ -4,10 +4,12 @@ use libc::STDIN_FILENO;
 use libc::STDOUT_FILENO;
 use lines::State;
 use words::DONE;
-ghost use Prim.Native.Nat.{_<_};
+ghost use mathlib.Core.Path.{_≡_};
+ghost use mathlib.Core.Bool.{true};
+ghost use Prim.Native.Nat.{_-_, _^_, _<_};
 ghost use lib.ListN.{length};
 ghost use Rattle.words.specs.Numbers.{limit};
-ghost use Rattle.lines.specs.Taking.{Ready};
+ghost use Rattle.lines.specs.Taking.{Read, Reads};
 ghost use Rattle.sheet.specs.Outcome.{Answers};
 
 // One card more than the limit is kept of a row, so that a longer one is refused as it would be whole.
@@ -16,26 +18,25 @@ const KEPT: usize = words::LIMIT + 1;
 // At the limit a sheet needs less.
 const SHEET: usize = 61500;
 
-// The state behind one read. The end of input ends the line as byte 10 does.
+// A proved loop has to end, and nothing says that the input does: so the turns are counted down from a number that no run uses up.
+const TURNS: u64 = u64::MAX;
+
+// The state behind one read.
 fn read_some(s: State, row: &mut [u8]) -> State
-    requires { ⌜ Ready s (now row) ⌝ }
-    ensures { λ r. ⌜ Ready r (now (row .exit)) ⌝ }
+    ensures { λ r. ⌜ Reads s (now (row .entry)) r (now (row .exit)) ⌝ }
 {
     let mut buf = io::large_buffer();
     let got = libc::read(STDIN_FILENO, &mut buf);
-    if got <= 0 {
-        return lines::taken(s, row, b"\n");
-    }
     let n = io::count(got, &buf);
-    lines::taken(s, row, &buf[..n])
+    lines::after_read(s, row, &buf[..n])
 }
 
-// A proved loop has to end, and nothing says that the input does: so the turns are counted down from a number that no run uses up.
+// The state behind the line. Where it has not ended, every turn was used, and each took a byte at least.
 fn read_line(row: &mut [u8]) -> State
-    ensures { λ r. ⌜ Ready r (now (row .exit)) ⌝ }
+    ensures { λ r. ⌜ Read (2 ^ 64 - 1) r (now (row .exit)) ⌝ }
 {
     let mut s = lines::start();
-    let mut turns = u64::MAX;
+    let mut turns = TURNS;
     while turns > 0 && !s.ended {
         s = read_some(s, row);
         turns -= 1;
@@ -43,9 +44,9 @@ fn read_line(row: &mut [u8]) -> State
     s
 }
 
-// What the program answers to the input that was read, of which s and the row are left; the sheet is written into out.
+// What the program answers to a line that has ended, of which s and the row are left; the sheet is written into out.
 fn reply(s: State, row: &[u8], out: &mut [u8]) -> Written
-    requires { ⌜ Ready s (now row) × (limit < length (now row)) ⌝ }
+    requires { ⌜ (s .ended ≡ true) × Read 0 s (now row) × (limit < length (now row)) ⌝ }
     ensures { λ r. ⌜ Answers s (now (row .entry)) (now (out .entry)) (r .number, r .place, r .length, now (out .exit)) ⌝ }
 {
     let l = lines::meaning(s);
@@ -69,7 +70,7 @@ fn print_refusal(number: u8, place: usize) {
 }
 
 fn print_reply(s: State, row: &[u8], out: &mut [u8])
-    requires { ⌜ Ready s (now row) × (limit < length (now row)) ⌝ }
+    requires { ⌜ (s .ended ≡ true) × Read 0 s (now row) × (limit < length (now row)) ⌝ }
 {
     let w = reply(s, row, out);
     let n = w.length;
@@ -84,7 +85,9 @@ fn answer(row: &mut [u8], out: &mut [u8])
     requires { ⌜ limit < length (now row) ⌝ }
 {
     let s = read_line(row);
-    print_reply(s, row, out);
+    if s.ended {
+        print_reply(s, row, out);
+    }
 }
 
 fn main() {

@@ -1,6 +1,6 @@
 -- `sheet::reply`. Assumes nothing.
 use borrow.Author.Needs.{needs}
-use Rattle.sheet.proofs.Kept.{answers-line, answers-sheet, ready-part}
+use Rattle.sheet.proofs.Kept.{answers-line, answers-sheet, read-part}
 use Rattle.sheet.proofs.reply.Statement.{statement}
 use Rattle.sheet.proofs.reply.Tie as tie
 
@@ -11,7 +11,7 @@ returns : tie.Need-returns
 returns c = search (needs, answers-line)
 
 slice-aggregate-sheet : tie.Need-slice-aggregate-sheet
-slice-aggregate-sheet c = search (needs, ready-part)
+slice-aggregate-sheet c = search (needs, read-part)
 
 sheet-requires : tie.Need-sheet-requires
 sheet-requires c κs = search needs
