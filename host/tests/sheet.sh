@@ -23,9 +23,12 @@ passed=0 failed=0
 
 run() { ${emulator:+"$emulator"} "$loader" --library-path "$tools/lib" "$program"; }
 
-# WHAT: what the program printed must be the file `want`
+# WHAT STATUS: the program ended with status 0, and what it printed is the file `want`
 agree() {
-    if cmp -s "$room/got" "$room/want"; then
+    if [ "$2" -ne 0 ]; then
+        failed=$((failed + 1))
+        echo "sheet.sh: $1: the program ended with status $2"
+    elif cmp -s "$room/got" "$room/want"; then
         passed=$((passed + 1))
     else
         failed=$((failed + 1))
@@ -38,23 +41,15 @@ agree() {
 
 # WHAT: what the program prints for the file `in` must be the file `want`
 same() {
-    if run <"$room/in" >"$room/got"; then
-        agree "$1"
-    else
-        echo "sheet.sh: $1: the program failed"
-        failed=$((failed + 1))
-    fi
+    run <"$room/in" >"$room/got"
+    agree "$1" $?
 }
 
 # WHAT: the same where the file comes through a pipe
 piped() {
     # shellcheck disable=SC2002
-    if cat "$room/in" | run >"$room/got"; then
-        agree "$1"
-    else
-        echo "sheet.sh: $1: the program failed"
-        failed=$((failed + 1))
-    fi
+    cat "$room/in" | run >"$room/got"
+    agree "$1" $?
 }
 
 # WHAT INPUT NUMBER PLACE: the input, in printf's notation, is refused
@@ -173,10 +168,10 @@ refused_ways '3000000 a' 1 3000000 '\n' 2 0
 refused_ways '3000000 a without byte 10' 1 3000000 '' 2 0
 
 # the same line in pieces as they come through a pipe
-{ printf '0' && sleep 1 && printf '3\tab' && sleep 1 && printf 'aab' && sleep 1 && printf '\n'; } | run >"$room/got"
 # shellcheck disable=SC2059
 printf "$abaab" >"$room/want"
-agree 'pieces through a pipe'
+{ printf '0' && sleep 1 && printf '3\tab' && sleep 1 && printf 'aab' && sleep 1 && printf '\n'; } | run >"$room/got"
+agree 'pieces through a pipe' $?
 
 # 197 a and a b over A 2, byte by byte: the echo of place i is i - 1 and its reach 198 - i, but place 1 has reach 198 and place 198 has neither; no border, so no
 # period; one look at each place of an a behind the first, and one at each of the 197 values from 196 down to 0 for the b
@@ -198,9 +193,9 @@ bytes() {
 }
 
 bytes '\n' | run >"$room/got"
-agree '201 pieces through a pipe'
+agree '201 pieces through a pipe' $?
 bytes | run >"$room/got"
-agree '200 pieces through a pipe and the end of input'
+agree '200 pieces through a pipe and the end of input' $?
 
 echo "sheet.sh: $passed agree, $failed differ"
 [ "$failed" -eq 0 ]
