@@ -1,4 +1,5 @@
-// From cards: echoes, looks and overlaps. A row is read only by `card_at`, a table of echoes only by `echo_at`, and written only by `put_echo`.
+// From cards: echoes, looks and overlaps. Here a row is read only by `card_at`, a table of echoes only by `echo_at`, and written only by `put_echo`; a part of
+// a row is cut only by `part`.
 ghost use mathlib.Core.Path.{_≡_};
 ghost use Prim.Native.Nat.{_+_, _≤_, _<_};
 ghost use lib.ListN.{length};

@@ -83,9 +83,9 @@ abaab =
     ∷ 108 ∷ 111 ∷ 111 ∷ 107 ∷ 115 ∷ 9 ∷ 53 ∷ 10
     ∷ []
 
--- in order: P1, P2, P3, P4; P5 to P8; P9; P10, P11; P12; P13, P14; and further the least row of 0 0 0, which is abb; 01's sheet; the first array of
--- four places over three letters and over one; P11's array is not stepped from; a buffer of two for three; a guess at abb by abc, whose cards differ first at
--- place 3 and whose echoes do not, and one whose echoes do
+-- in order: P1, P2, P3, P4; P5 to P8; P9; P10, P11; P12; P13, P14; and further the least row of 0 0 0, which is abb; 01's sheet; the first array of four places
+-- over three letters and over one; the empty array, first and last of its length; P11's array, from which no step goes; a buffer of two for three; a guess at abb
+-- by abc, whose cards differ first at place 3 and whose echoes do not, and one whose echoes do
 unfoldable pub table : List Case
 table =
     echoing 1 [] [] ∷ looking 1 [] 0
@@ -104,7 +104,7 @@ table =
     ∷ stopping 2 (0 ∷ 1 ∷ 2 ∷ []) LAST 0
     ∷ rebuilding 3 (0 ∷ 0 ∷ 0 ∷ []) (a ∷ b ∷ b ∷ [])
     ∷ writing 3 (a ∷ b ∷ a ∷ a ∷ b ∷ []) abaab
-    ∷ starting 3 4 (0 ∷ 0 ∷ 0 ∷ 0 ∷ []) ∷ starting 1 4 (0 ∷ 1 ∷ 2 ∷ 3 ∷ [])
+    ∷ starting 3 4 (0 ∷ 0 ∷ 0 ∷ 0 ∷ []) ∷ starting 1 4 (0 ∷ 1 ∷ 2 ∷ 3 ∷ []) ∷ starting 5 0 [] ∷ stopping 5 [] LAST 0
     ∷ stopping 2 (0 ∷ 2 ∷ []) IMPOSSIBLE 2 ∷ lending 3 (0 ∷ 0 ∷ 0 ∷ []) (200 ∷ 200 ∷ [])
     ∷ guessing 3 (a ∷ b ∷ b ∷ []) (a ∷ b ∷ c ∷ []) DONE 0 ∷ guessing 2 (a ∷ a ∷ b ∷ []) (a ∷ b ∷ a ∷ []) DIFFERS 2
     ∷ []

@@ -12,7 +12,7 @@ use borrow.Author.Tests.{ltb-true, ltb-false}
 use Rattle.words.specs.Lists.{each, firstOf, run, places, at, placed}
 use Rattle.words.proofs.Lists.{which, either, same?, In, In-nil, In-cons, In-here, there, each-long}
 
--- one place becomes one index here, and nowhere else
+-- place i is index i - 1
 pub index-at : (l : List ℕ) (i : ℕ) → 0 < i → getD l (i - 1) 0 ≡ at l i
 unfolding at
 index-at l zero h = absurd (omega arith)
