@@ -41,14 +41,14 @@ use Rattle.corridor.proofs.joining.Kinds as joining-kinds
 abbrev number : ℕ × ℕ → ℕ
 number r = r .0
 
-abbrev told : ℕ × ℕ → List ℕ → ℕ × ℕ × List ℕ
+abbrev pub told : ℕ × ℕ → List ℕ → ℕ × ℕ × List ℕ
 told r x = (r .0, r .1, x)
 
 both-same : {r s : ℕ × ℕ} {x y : List ℕ} → r ≡ s → x ≡ y → told r x ≡ told s y
 both-same {r} {s} {x} {y} p q = ap (λ (t : ℕ × ℕ). told t x) p ∙ ap (told s) q
 
 -- what the contract `post` says of two runs on the same arguments: `seen` shows the same of both
-abbrev Determines : (n : ℕ) (ps : List (PK n)) (r : RK n) → Out n ps r → {T : Type 0} → ((κs : Lfts n) → resT r κs .Denot → AtExit (endedOf n ps r) κs → T) → Type 0
+abbrev pub Determines : (n : ℕ) (ps : List (PK n)) (r : RK n) → Out n ps r → {T : Type 0} → ((κs : Lfts n) → resT r κs .Denot → AtExit (endedOf n ps r) κs → T) → Type 0
 Determines n ps r post seen =
     (κs : Lfts n) (a : Dens κs ps) (x y : resT r κs .Denot) (s t : AtExit (endedOf n ps r) κs) → post κs a x s → post κs a y t → seen κs x s ≡ seen κs y t
 
@@ -86,7 +86,7 @@ pub guess-determined : Determines 2 guess-kinds.ps guess-kinds.r guess.Post {T =
 guess-determined κs a x y s t p q = p ∙ sym q
 
 -- rebuilding, a relation in the demand's words: a checked array stands or does not, and there is one least row
-rebuilds-one : {A : ℕ} {e old new fresh : List ℕ} {r s : ℕ × ℕ} → Rebuilds A e old r new → Rebuilds A e old s fresh → told r new ≡ told s fresh
+pub rebuilds-one : {A : ℕ} {e old new fresh : List ℕ} {r s : ℕ × ℕ} → Rebuilds A e old r new → Rebuilds A e old s fresh → told r new ≡ told s fresh
 unfolding LeastRow
 rebuilds-one (refuses d e k) (refuses c f l) = both-same (e ∙ sym f) (k ∙ sym l)
 rebuilds-one (refuses d e k) (breaks c n f l) = absurd (d (ap number e ∙ c))
@@ -112,7 +112,7 @@ pub count-determined : Determines 0 count-kinds.ps count-kinds.r count.Post {T =
 count-determined κs a x y s t p q = p ∙ sym q
 
 -- the first array: there is one least
-starts-one : {A n : ℕ} {old new fresh : List ℕ} {r s : ℕ × ℕ} → Starts A n old r new → Starts A n old s fresh → told r new ≡ told s fresh
+pub starts-one : {A n : ℕ} {old new fresh : List ℕ} {r s : ℕ × ℕ} → Starts A n old r new → Starts A n old s fresh → told r new ≡ told s fresh
 unfolding First
 starts-one (refuses d e k) (refuses c f l) = both-same (e ∙ sym f) (k ∙ sym l)
 starts-one (refuses d e k) (starts c l f) = absurd (d (ap number e ∙ c))
@@ -127,7 +127,7 @@ pub first-follows : Follows 1 first-kinds.ps first-kinds.r first.Post {T = ℕ �
 first-follows p = starts-one (p .meets) (first-meets (p .args .0) (p .args .1 .0) (p .args .1 .1 .0 .now))
 
 -- the next array: an array stands or does not, something is greater or nothing is, and there is one least
-steps-one : {A : ℕ} {e new fresh : List ℕ} {r s : ℕ × ℕ} → Steps A e r new → Steps A e s fresh → told r new ≡ told s fresh
+pub steps-one : {A : ℕ} {e new fresh : List ℕ} {r s : ℕ × ℕ} → Steps A e r new → Steps A e s fresh → told r new ≡ told s fresh
 unfolding Next
 steps-one (refuses d e k) (refuses c f l) = both-same (e ∙ sym f) (k ∙ sym l)
 steps-one (refuses d e k) (breaks c n f l) = absurd (d (ap number e ∙ c))

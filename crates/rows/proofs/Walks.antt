@@ -4,7 +4,8 @@ use mathlib.Core.List.{List}
 use Prim.Native.Nat.{ℕ, zero, suc, _+_, _-_, _≤_, _<_}
 use native.Mathlib.Omega.{arith}
 use native.Mathlib.Numerals.{add-one}
-use lib.ListN.{length, take, drop}
+use lib.ListN.{length, take, drop, length-drop}
+use lib.Seq.{length-take-le}
 use borrow.Author.Tests.{eq-eqb, ne-eqb}
 use Rattle.words.specs.Lists.{at, placed}
 use Rattle.words.specs.Rows.{card, Small, echo, echoes, looksFrom, looksAt, looksTo, looks}
@@ -253,3 +254,7 @@ join-fits x y r q = let (c, f) = overlap-closes (card x) (length x) (card y) (le
 pub part-is : (x : List ℕ) (p : ℕ × ℕ) (d k : ℕ) → (take (d + k - d) (drop d x), (p .0, d + p .1)) ≡ part x p d k
 unfolding part
 part-is x p d k = let z : d + k - d ≡ k = omega arith in ap (λ (m : ℕ). (take m (drop d x), (p .0, d + p .1))) z
+
+pub part-long : (x : List ℕ) (p : ℕ × ℕ) (d k : ℕ) → d + k ≤ length x → length (part x p d k .0) ≡ k
+unfolding part
+part-long x p d k h = length-take-le k (drop d x) (omega (arith, length-drop d x))

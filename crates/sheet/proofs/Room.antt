@@ -10,19 +10,20 @@ use Rattle.words.specs.Numbers.{DONE, ALPHABET, CARD, ROOM, cards, unless, refu
 use Rattle.words.specs.Outcomes.{sheet-outcome}
 use Rattle.words.specs.Sheet.{sheet}
 use Rattle.words.proofs.Lists.{which, either, same?}
-use Rattle.words.proofs.Checks.{refusal-clear, sizes-clear, refusal-low, rowed-low}
+use Rattle.words.proofs.Checks.{refusal-clear, sizes-clear}
+use Rattle.words.proofs.Bounds.{Bounded, refusal-bounded, rowed-bounded}
 use Rattle.sheets.proofs.Bound.{row-short}
 use Rattle.lines.specs.Line.{lineOf, good, meaning}
 use Rattle.sheet.specs.Outcome.{line-outcome}
 
 pub sheet-numbers : (A : ℕ) (x old : List ℕ) → 61500 ≤ length old → sheet-outcome A x old .0 ≤ CARD
 unfolding sheet-outcome unless refusal
-sheet-numbers A x old w = refusal-low (rowed A x) (unless (leb (length (sheet A x)) (length old)) ROOM) [] CARD (rowed-low A x) fits
+sheet-numbers A x old w = refusal-bounded (rowed A x) (unless (leb (length (sheet A x)) (length old)) ROOM) [] CARD (rowed-bounded A x) fits .number
   where
-    fits : rowed A x .0 ≡ DONE → unless (leb (length (sheet A x)) (length old)) ROOM .0 ≤ CARD
+    fits : rowed A x .0 ≡ DONE → Bounded CARD (unless (leb (length (sheet A x)) (length old)) ROOM)
     fits z =
         let (a, b, c) = sizes-clear A (length x) (refusal-clear (sizes A (length x)) (cards A x) [] z .0) in
-        rw (le-leb (length (sheet A x)) (length old) (omega (arith, row-short A x b c))) (omega arith)
+        rw (le-leb (length (sheet A x)) (length old) (omega (arith, row-short A x b c))) (record { number = omega arith; place = omega arith })
 
 meaning-low : (l : List ℕ) → meaning l .0 ≤ ALPHABET
 unfolding meaning

@@ -10,7 +10,7 @@ use borrow.Author.Tests.{eq-eqb, ne-eqb, le-leb, lt-leb, lt-ltb, le-ltb, leb-tru
 use Rattle.words.specs.Lists.{both, firstOf, run, places, at}
 use Rattle.words.specs.Rows.{card}
 use Rattle.words.specs.Outcomes.{kept, given, answered, counted}
-use Rattle.words.specs.Numbers.{DONE, ALPHABET, LONG, MISMATCH, CARD, letters, firstLetter, letter, over, foreign, outside, differs, differing, named, unless, alphabet, long, matching, cards, refusal, sizes, lent, rowed, paired, limit}
+use Rattle.words.specs.Numbers.{DONE, LONG, MISMATCH, CARD, letters, firstLetter, letter, over, foreign, outside, differs, differing, named, unless, alphabet, long, matching, cards, refusal, sizes, lent, paired, limit}
 use Rattle.words.proofs.Lists.{which, either, same?, not-both, every-in, every-out, both-out, both-true, both-left, both-right}
 use Rattle.words.proofs.Places.{places-in, places-out, first-places, first-start, first-here, first-more, first-none}
 
@@ -58,42 +58,6 @@ refusal-clear c d l z = either (same? (c .0) DONE)
     (λ e. (e, rw (eq-eqb (c .0) DONE e) at z))
     (λ n. absurd (n (rw (ne-eqb (c .0) DONE n) at z)))
 
--- no check gives a number above its own, and no list of checks one above all of theirs
-unless-low : (t : Bool) (n : ℕ) → unless t n .0 ≤ n
-unfolding unless
-unless-low t n = either (which t) (λ y. rw y (omega arith)) (λ f. rw f (omega arith))
-
-pub named-low : (n p : ℕ) → named n p .0 ≤ n
-unfolding named
-named-low n p = either (which (eqb p 0)) (λ y. rw y (omega arith)) (λ f. rw f (omega arith))
-
-pub refusal-low : (c d : ℕ × ℕ) (l : List (ℕ × ℕ)) (m : ℕ) → c .0 ≤ m → (c .0 ≡ DONE → refusal (d ∷ l) .0 ≤ m) → refusal (c ∷ d ∷ l) .0 ≤ m
-unfolding refusal
-refusal-low c d l m h k = either (same? (c .0) DONE) (λ z. rw (eq-eqb (c .0) DONE z) (k z)) (λ n. rw (ne-eqb (c .0) DONE n) h)
-
-pub sizes-low : (A n : ℕ) → sizes A n .0 ≤ LONG
-unfolding alphabet long refusal
-sizes-low A n = refusal-low (alphabet A) (long limit n) [] LONG (omega (arith, unless-low (both (leb 1 A) (leb A letters)) ALPHABET)) (λ z. unless-low (leb n limit) LONG)
-
-pub cards-low : (A : ℕ) (x : List ℕ) → cards A x .0 ≤ CARD
-unfolding cards
-cards-low A x = named-low CARD (outside A x)
-
-pub rowed-low : (A : ℕ) (x : List ℕ) → rowed A x .0 ≤ CARD
-unfolding refusal
-rowed-low A x = refusal-low (sizes A (length x)) (cards A x) [] CARD (omega (arith, sizes-low A (length x))) (λ z. cards-low A x)
-
-pub paired-low : (A : ℕ) (x g : List ℕ) → paired A x g .0 ≤ CARD
-unfolding refusal long matching
-paired-low A x g = refusal-low lengths (cards A x) (cards A g ∷ []) CARD
-    (refusal-low (sizes A (length x)) (long limit (length g)) (matching (length x) (length g) ∷ []) CARD (omega (arith, sizes-low A (length x)))
-    (λ z. refusal-low (long limit (length g)) (matching (length x) (length g)) [] CARD
-    (omega (arith, unless-low (leb (length g) limit) LONG)) (λ y. omega (arith, unless-low (eqb (length g) (length x)) MISMATCH))))
-    (λ z. refusal-low (cards A x) (cards A g) [] CARD (cards-low A x) (λ y. cards-low A g))
-  where
-    lengths : ℕ × ℕ
-    lengths = refusal (sizes A (length x) ∷ long limit (length g) ∷ matching (length x) (length g) ∷ [])
-
 pub long-clear : (most n : ℕ) → long most n .0 ≡ DONE → n ≤ most
 unfolding long unless
 long-clear most n z = either (which (leb n most)) (λ t. leb-true n most t) (λ f. absurd (omega (arith, rw f at z)))
@@ -128,13 +92,17 @@ unfolding matching refusal
 lent-done A n m z = let (p, q) = refusal-clear (sizes A n) (matching n m) [] z in
     sym (refusal-last (sizes A n) (matching n m) (sizes A n) (DONE, 0) refl p (unless-good (eqb m n) MISMATCH (eq-eqb m n (matching-clear n m q))))
 
-pub paired-clear : (A : ℕ) (x g : List ℕ) → paired A x g .0 ≡ DONE → (length x ≤ limit) × (length g ≤ limit) × (length g ≡ length x)
+pub lengths-clear : (A : ℕ) (x g : List ℕ) → refusal (sizes A (length x) ∷ long limit (length g) ∷ matching (length x) (length g) ∷ []) .0 ≡ DONE
+    → (length x ≤ limit) × (length g ≤ limit) × (length g ≡ length x)
 unfolding refusal
-paired-clear A x g z =
-    let lengths = refusal (sizes A (length x) ∷ long limit (length g) ∷ matching (length x) (length g) ∷ []) in
-    let (s, m) = refusal-clear (sizes A (length x)) (long limit (length g)) (matching (length x) (length g) ∷ []) (refusal-clear lengths (cards A x) (cards A g ∷ []) z .0) in
+lengths-clear A x g z =
+    let (s, m) = refusal-clear (sizes A (length x)) (long limit (length g)) (matching (length x) (length g) ∷ []) z in
     let (l, e) = refusal-clear (long limit (length g)) (matching (length x) (length g)) [] m in
     (sizes-clear A (length x) s .2, long-clear limit (length g) l, matching-clear (length x) (length g) e)
+
+pub paired-clear : (A : ℕ) (x g : List ℕ) → paired A x g .0 ≡ DONE → (length x ≤ limit) × (length g ≤ limit) × (length g ≡ length x)
+paired-clear A x g z = lengths-clear A x g
+    (refusal-clear (refusal (sizes A (length x) ∷ long limit (length g) ∷ matching (length x) (length g) ∷ [])) (cards A x) (cards A g ∷ []) z .0)
 
 pub named-clear : (n p : ℕ) → (n ≡ DONE → ⊥) → named n p .0 ≡ DONE → p ≡ 0
 unfolding named

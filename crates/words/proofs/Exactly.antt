@@ -9,16 +9,17 @@ use lib.Dec.{ltb, leb, eqb}
 use lib.ListN.{length}
 use lib.Seq.{ext-getD}
 use borrow.Author.Tests.{eq-eqb, eqb-true, lt-leb, leb-false, ltb-true, ltb-false, not-true, not-false}
-use Rattle.words.specs.Lists.{any, places, at}
+use Rattle.words.specs.Lists.{places, at}
 use Rattle.words.specs.Rows.{card, echo, echoes}
-use Rattle.words.specs.Numbers.{DONE, FULL, ROOM, LAST, DIFFERS, differs, differing, named, unless, refusal, sizes, rowed, paired}
-use Rattle.words.specs.Stand.{Stands, possible, hidden, opens, weight, weighed, numberAt, firstBad, verdict}
+use Rattle.words.specs.Numbers.{DONE, ROOM, LAST, DIFFERS, differs, differing, named, unless, refusal, sizes, rowed, paired}
+use Rattle.words.specs.Stand.{Stands}
 use Rattle.words.specs.Listing.{StandsAfter, Next}
 use Rattle.words.specs.Sheet.{sheet}
 use Rattle.words.specs.Outcomes.{sheet-outcome, guess-outcome, Steps, refuses, breaks, ends, steps}
 use Rattle.words.proofs.Lists.{which, either, same?, not-both}
 use Rattle.words.proofs.Places.{first-places, places-length}
-use Rattle.words.proofs.Checks.{refusal-stop, refusal-last, refusal-clear, unless-good, unless-not, named-none, named-place, named-clear, paired-clear, sizes-low, rowed-low, paired-low}
+use Rattle.words.proofs.Checks.{refusal-stop, refusal-last, refusal-clear, unless-good, unless-not, named-none, named-place, named-clear, paired-clear}
+use Rattle.words.proofs.Bounds.{sizes-bounded, rowed-bounded, paired-bounded, verdict-low}
 
 -- p is the first place where e and f differ
 pub record Differ (e f : List ℕ) (p : ℕ) : Type 0 where
@@ -104,7 +105,7 @@ module _ (A : ℕ) (x g : List ℕ) where
   -- 10 exactly if no check refuses and the echoes differ, and then at the first place where they do
   pub guess-differs : (p : ℕ) → (guess-outcome A x g ≡ (DIFFERS, p)) ↔ ((paired A x g .0 ≡ DONE) × Differ (echoes x) (echoes g) p)
   guess-differs p = (
-    (λ q. either (same? (paired A x g .0) DONE) (λ z. (z, first z (sym (told z) ∙ q))) (λ d. absurd (omega (arith, paired-low A x g, ap (λ (r : ℕ × ℕ). r .0) (refused d ∙ q))))),
+    (λ q. either (same? (paired A x g .0) DONE) (λ z. (z, first z (sym (told z) ∙ q))) (λ d. absurd (omega (arith, paired-bounded A x g .number, ap (λ (r : ℕ × ℕ). r .0) (refused d ∙ q))))),
     (λ h. told (h .0) ∙ ap (named DIFFERS) (first-differing (echoes x) (echoes g) p (h .1)) ∙ sym (named-place DIFFERS p (λ z. omega (arith, h .1 .place)))),
   )
     where
@@ -120,7 +121,7 @@ unfolding sheet-outcome
 sheet-room A x old = (
   (λ q. either (same? (rowed A x .0) DONE)
       (λ z. (z, longer (ap (λ (r : ℕ × ℕ). r .0) (last z) ∙ q)))
-      (λ d. absurd (omega (arith, rowed-low A x, ap (λ (r : ℕ × ℕ). r .0) (refusal-stop (rowed A x) room (rowed A x) [] refl d))))),
+      (λ d. absurd (omega (arith, rowed-bounded A x .number, ap (λ (r : ℕ × ℕ). r .0) (refusal-stop (rowed A x) room (rowed A x) [] refl d))))),
   (λ h. ap (λ (r : ℕ × ℕ). r .0) (sym (last (h .0)) ∙ sym (unless-not (leb (length (sheet A x)) (length old)) ROOM (lt-leb (length (sheet A x)) (length old) (h .1))))),
 )
   where
@@ -135,35 +136,12 @@ sheet-room A x old = (
         (λ t. absurd (omega (arith, ap (λ (r : ℕ × ℕ). r .0) (unless-good (leb (length (sheet A x)) (length old)) ROOM t))))
         (λ f. leb-false (length (sheet A x)) (length old) f)
 
--- no verdict has a number above 7
-weight-low : (E : ℕ → ℕ) (b m : ℕ) → weight E b m ≤ FULL
-unfolding weight
-weight-low E b m = either (which (any (eqb m) (possible E b)))
-    (λ t. rw t (either (which (hidden E b m)) (λ u. rw u (omega arith)) (λ u. rw u (omega arith))))
-    (λ f. rw f (omega arith))
-
-weighed-low : (A : ℕ) (E : ℕ → ℕ) (n m : ℕ) → weighed A E n m ≤ FULL
-unfolding weighed
-weighed-low A E zero zero = omega arith
-weighed-low A E zero (suc m) = omega arith
-weighed-low A E (suc n) zero = either (which (ltb (length (opens E (E (suc n)))) A)) (λ t. rw t (omega arith)) (λ f. rw f (omega arith))
-weighed-low A E (suc n) (suc m) = weight-low E (E (suc n)) (suc m)
-
-number-low : (A : ℕ) (E : ℕ → ℕ) (i : ℕ) → numberAt A E i ≤ FULL
-unfolding numberAt
-number-low A E zero = omega arith
-number-low A E (suc i) = weighed-low A E i (E (suc i))
-
-pub verdict-low : (A : ℕ) (e : List ℕ) → verdict A e .0 ≤ FULL
-unfolding verdict
-verdict-low A e = number-low A (at e) (firstBad A e)
-
 -- 9 exactly if no check refuses, the array stands, and no standing array of its length is greater
 pub steps-last : (A : ℕ) (e : List ℕ) (r : ℕ × ℕ) (new : List ℕ) → Steps A e r new
     → (r .0 ≡ LAST) ↔ ((sizes A (length e) .0 ≡ DONE) × Stands A e × ((z : List ℕ) → StandsAfter A e z → ⊥))
 unfolding Next
 steps-last A e r new (refuses d q k) = (
-  (λ h. absurd (omega (arith, sizes-low A (length e), ap (λ (s : ℕ × ℕ). s .0) q))),
+  (λ h. absurd (omega (arith, sizes-bounded A (length e) .number, ap (λ (s : ℕ × ℕ). s .0) q))),
   (λ h. absurd (d (ap (λ (s : ℕ × ℕ). s .0) q ∙ h .0))),
 )
 steps-last A e r new (breaks c n q k) = (

@@ -100,9 +100,28 @@ decoded (low ∷ high ∷ l) = (low + 256 * high) ∷ decoded l
 unfoldable pub judge-answer : ℕ → ℕ → List ℕ → ℕ × ℕ
 judge-answer A n bytes = refusal (sizes A n ∷ matching (2 * n) (length bytes) ∷ verdict A (decoded bytes) ∷ [])
 
--- the C functions: number + 256 * place, and number + 4 * count
-unfoldable pub host-judge-outcome : ℕ → ℕ → List ℕ → ℕ
-host-judge-outcome A n bytes = let r = judge-answer A n bytes in r .0 + 256 * r .1
+-- the C functions hand back their whole answer in 64 bits. One packing for all but the count: number + 2^8 * place + 2^24 * value, the value 0 where there is none
+unfoldable pub packing : ℕ × ℕ → ℕ → ℕ
+packing r v = r .0 + 256 * r .1 + 16777216 * v
 
+-- an answer with a buffer, with a value, and with both, packed; r packs an answer of which P holds
+unfoldable pub packed-buffer : ℕ × ℕ × List ℕ → ℕ × List ℕ
+packed-buffer o = (packing (o .0, o .1) 0, o .2)
+
+unfoldable pub packed-value : ℕ × ℕ × ℕ → ℕ
+packed-value o = packing (o .0, o .1) (o .2)
+
+unfoldable pub packed-both : ℕ × ℕ × ℕ × List ℕ → ℕ × List ℕ
+packed-both o = (packing (o .0, o .1) (o .2), o .3)
+
+pub record Packs (P : ℕ × ℕ → Type 0) (r : ℕ) : Type 0 where
+  pub answer : ℕ × ℕ
+  pub is : P answer
+  pub packed : r ≡ packing answer 0
+
+unfoldable pub host-judge-outcome : ℕ → ℕ → List ℕ → ℕ
+host-judge-outcome A n bytes = packing (judge-answer A n bytes) 0
+
+-- number + 4 * count
 unfoldable pub host-count-outcome : ℕ → ℕ → ℕ
 host-count-outcome A n = let r = count-outcome A n in r .0 + 4 * r .2
