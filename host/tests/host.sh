@@ -22,7 +22,7 @@ diff "$out/loader.out" host/loader.expected
 echo "host: the loader says what it should"
 
 run example
-echo 'this corridor stands' >"$out/example.expected"
+printf 'sheet\t5\t3\necho\t0\t0\t1\t1\t2\nreach\t5\t0\t1\t2\t0\nperiods\t3\nlooks\t5\nrefused: number 5 at place 5\n' >"$out/example.expected"
 diff "$out/example.out" "$out/example.expected"
 echo "host: the example of docs/HOST.md says what it should"
 
