@@ -1,6 +1,6 @@
 #!/bin/sh
 # build.sh NAME..: builds host/NAME.c or host/NAME.rs with the archive of crates/host into target/host/NAME, a static x86-64 program. The name `example` is
-# the C example of docs/HOST.md, taken out of the document. On Arm that file is a line that has the kit's emulator run it.
+# the C example of docs/HOST.md, taken out of the document. The program is NAME.x86-64 there, and NAME is a line that has ./claybobbin run it on this machine.
 set -eu
 cd "$(dirname "$0")/.."
 out=target/host
@@ -8,14 +8,8 @@ archive=target/staticlib/libhost.a
 mkdir -p "$out"
 
 case $(uname -m) in
-aarch64)
-    cc=x86_64-linux-gnu-gcc cxx=x86_64-linux-gnu-g++ rustc=/usr/bin/rustc
-    doc=$(rt doc)
-    kit=$(dirname "$(dirname "$doc")")
-    # a plain processor: by default the emulator claims fast string instructions, which it takes a byte at a time, and the C library would use them
-    emulator="$kit/on/aarch64/toolchain/bin/qemu-x86_64 -cpu qemu64"
-    ;;
-*) cc=gcc cxx=g++ rustc=rustc emulator='' ;;
+aarch64) cc=x86_64-linux-gnu-gcc cxx=x86_64-linux-gnu-g++ rustc=/usr/bin/rustc ;;
+*) cc=gcc cxx=g++ rustc=rustc ;;
 esac
 
 quietly() { # COMMAND..: what it says counts only where it fails
@@ -52,6 +46,6 @@ for name in "$@"; do
         # a static program warns of what it would load to look up a host's name, which none of these does
         quietly "$cc" -static -o "$program" "$out/lib$name.a" "$archive"
     fi
-    printf '#!/bin/sh\nexec %s "%s" "$@"\n' "$emulator" "$PWD/$program" >"$out/$name"
+    printf '#!/bin/sh\nexec "%s" run "%s" "$@"\n' "$PWD/claybobbin" "$PWD/$program" >"$out/$name"
     chmod +x "$out/$name"
 done

@@ -1,6 +1,7 @@
 #!/bin/sh
 # Sets up what the host programs are built with, from Debian's packages, and says what it installs. Where all is there it does nothing.
-# On x86-64 these are gcc, g++ and rustc. On Arm they are those that make x86-64 programs, since the archive is x86-64: the kit's emulator runs them.
+# On x86-64 these are gcc, g++ and rustc. On Arm they are those that make x86-64 programs, since the archive is x86-64: the kit's emulator runs them. On both
+# pkg-config tells a C compiler where an installed library is.
 set -eu
 packages=''
 
@@ -13,6 +14,7 @@ need() { # FILE-OR-COMMAND PACKAGE..: the packages, where the first is not there
     packages="$packages $*"
 }
 
+need pkg-config pkgconf
 case $(uname -m) in
 x86_64)
     need gcc gcc libc6-dev
