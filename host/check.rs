@@ -1,7 +1,7 @@
 // An independent check of the C functions, through the archive: every answer whole, and every entry of every slice that is lent. Nothing here is the library's.
 // Short inputs are answered by the definitions alone (every row is written down, slices are compared as they lie), long ones by plain code that is held against
 // the definitions first. The inputs are the same in every run.
-// The gate runs `check long`: some millions of inputs, and every count. `check` alone tries fewer, for a quick look.
+// The gate runs `check long`: over five million inputs, and every count. `check` alone tries fewer, for a quick look.
 #[path = "check/arrays.rs"]
 mod arrays;
 #[path = "check/calls.rs"]

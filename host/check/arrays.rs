@@ -117,8 +117,12 @@ fn listings(t: &mut Tally, most: usize, places: usize) {
 
 // ---- long arrays, by plain code
 
-fn all_three(t: &mut Tally, a: usize, e: &[u16]) {
+fn judged(t: &mut Tally, a: usize, e: &[u16]) {
     t.array(a, e, plain::judge(a, e));
+}
+
+fn all_three(t: &mut Tally, a: usize, e: &[u16]) {
+    judged(t, a, e);
     t.rebuild(a, e, e.len(), &plain::rebuild(a, e));
     t.next(a, e, &plain::next(a, e));
 }
@@ -130,7 +134,7 @@ fn long_arrays(t: &mut Tally, d: &mut Dice, rounds: usize) {
         let mut e = echoes(&row(d, n));
         let any = 1 + d.below(26);
         let a = d.of(&[1, 2, 3, 4, 5, 12, 13, 26, any]);
-        let ask = if round % 8 == 0 { all_three } else { |t: &mut Tally, a: usize, e: &[u16]| t.array(a, e, plain::judge(a, e)) };
+        let ask: fn(&mut Tally, usize, &[u16]) = if round % 4 == 0 { all_three } else { judged };
         ask(t, a, &e);
         for _ in 0..2 {
             if n > 0 {
@@ -152,8 +156,8 @@ fn each_place(t: &mut Tally, d: &mut Dice, arrays: usize) {
         for i in 0..n {
             let mut f = e.clone();
             f[i] = other(d, &e, i);
-            t.array(26, &f, plain::judge(26, &f));
-            t.array(2, &f, plain::judge(2, &f));
+            judged(t, 26, &f);
+            judged(t, 2, &f);
             if i % 16 == 0 {
                 all_three(t, 3, &f);
             }
@@ -180,7 +184,8 @@ fn long_kinds(t: &mut Tally, d: &mut Dice) {
 
 // ---- refusals
 
-// Any A beside any n beside any number of bytes, all of them zero: 1, then 2, then 3, then the judgement of zeros. The same for the first array and its buffer.
+// Any A beside any n beside any number of bytes, all of them zero: 1, then 2, then 3, then the judgement of zeros. The same for the first array and its buffer,
+// and any A beside arrays of every number.
 fn refusals(t: &mut Tally) {
     let bytes = vec![0u8; 2 * LIMIT + 4];
     for &a in &sizes() {
@@ -192,6 +197,9 @@ fn refusals(t: &mut Tally) {
             for room in [0, 1, 2, 12, 26, LIMIT, LIMIT + 1] {
                 first(t, a, n, room);
             }
+        }
+        for e in [&[][..], &[0], &[0, 0], &[0, 1], &[0, 2], &[0, 1, 1], &[0, 0, 1, 0, 0]] {
+            hostile_array(t, a, e);
         }
     }
 }

@@ -2,6 +2,7 @@
 use super::inputs::encode;
 use std::fmt::Debug;
 use std::ops::Range;
+use std::sync::atomic::{AtomicPtr, Ordering};
 
 extern "C" {
     fn claybobbin_echoes(a: usize, row: *const u8, row_length: usize, out: *mut u16, out_length: usize) -> u64;
@@ -18,6 +19,7 @@ extern "C" {
     fn claybobbin_joining(left: *const u8, left_length: usize, right: *const u8, right_length: usize) -> u64;
     fn mmap(address: *mut u8, length: usize, protection: i32, flags: i32, file: i32, offset: i64) -> *mut u8;
     fn mprotect(address: *mut u8, length: usize, protection: i32) -> i32;
+    fn signal(number: i32, handler: extern "C" fn(i32)) -> usize;
 }
 
 // ---- answers
@@ -155,7 +157,7 @@ impl<T: Cell> Lent<T> {
     }
 }
 
-// Memory between two stretches that no one can touch, neither to write nor to read: who does ends the program. They are 64 KiB, the largest page there is.
+// Memory between two stretches that no one can touch, neither to write nor to read. They are 64 KiB, the largest page there is.
 struct Ground {
     start: *mut u8,
 }
@@ -202,6 +204,16 @@ enum Way {
     Last,
 }
 
+// Where the function lies that tells the input of the call under way, a `&dyn Fn() -> String`: for a call that does not come back.
+static ASKED: AtomicPtr<()> = AtomicPtr::new(std::ptr::null_mut());
+
+// Memory was touched that is not there: a null pointer's, or that beside a ground.
+extern "C" fn fault(_: i32) {
+    let asked = ASKED.load(Ordering::SeqCst) as *const &dyn Fn() -> String;
+    let input = if asked.is_null() { "no call".to_string() } else { unsafe { (*asked)() } };
+    fail(&input, "nothing touched outside the slices", "a fault of memory");
+}
+
 // ---- calls
 
 #[derive(Clone, Copy)]
@@ -244,6 +256,9 @@ pub struct Tally {
 
 impl Tally {
     pub fn new() -> Tally {
+        for number in [7, 11] {
+            unsafe { signal(number, fault) };
+        }
         Tally { inputs: [0; 12], grounds: [Ground::new(), Ground::new()], edges: false }
     }
 
@@ -271,10 +286,14 @@ impl Tally {
             let count = &mut self.inputs[function as usize];
             *count += 1;
             let guards = 16 + *count as usize % 32;
-            let got = c(x.lay(way, guards, &self.grounds[0]), y.lay(way, guards + 1, &self.grounds[1]));
+            let what = || format!("{}, {:?}: {}", NAMES[function as usize], way, input());
+            let (p, q) = (x.lay(way, guards, &self.grounds[0]), y.lay(way, guards + 1, &self.grounds[1]));
+            let mut asked: &dyn Fn() -> String = &what;
+            ASKED.store(&mut asked as *mut &dyn Fn() -> String as *mut (), Ordering::SeqCst);
+            let got = c(p, q);
+            ASKED.store(std::ptr::null_mut(), Ordering::SeqCst);
             x.fetch(way, &self.grounds[0]);
             y.fetch(way, &self.grounds[1]);
-            let what = || format!("{}, {:?}: {}", NAMES[function as usize], way, input());
             if got != packing.pack(expected) {
                 fail(&what(), &packing.shown(packing.pack(expected)), &packing.shown(got));
             }

@@ -1,7 +1,7 @@
 // The functions that read cards: echoes, reach, looks, sheet, guess and the two strips.
 use super::calls::{done, fail, refused, Answer, Outcome, Tally};
 use super::definitions::{self, Lists};
-use super::inputs::{each_row, kinds, letters, outside, rooms, row, Dice, ALPHABETS, LENGTHS, LETTERS, LIMIT};
+use super::inputs::{each_row, kinds, letters, outside, rooms, row, sizes, Dice, ALPHABETS, LENGTHS, LETTERS, LIMIT};
 use super::plain;
 
 // Rows up to this length are answered by the definitions, others by plain code.
@@ -162,6 +162,18 @@ fn each_card(t: &mut Tally) {
                 let good = vec![b'a'; row.len()];
                 guess(t, a, &row, &good);
                 guess(t, a, &good, &row);
+            }
+        }
+    }
+}
+
+// Any A beside short rows, good and bad.
+fn each_size(t: &mut Tally) {
+    for a in sizes() {
+        for row in [&b""[..], b"a", b"aab", b"abcxyz", b"a{", b"aB"] {
+            asked(a, row).every_room(t);
+            for other in [&b""[..], b"a", b"abb", b"`bb", b"zyxcba"] {
+                guess(t, a, row, other);
             }
         }
     }
@@ -398,9 +410,10 @@ fn long_joinings(t: &mut Tally, d: &mut Dice, rounds: usize) {
 // ---- all of them
 
 pub fn check(t: &mut Tally, d: &mut Dice, long: bool) {
-    let (more, rounds) = if long { (3, 4000) } else { (1, 400) };
+    let (more, rounds) = if long { (3, 8000) } else { (1, 400) };
     short_rows(t, more);
     each_card(t);
+    each_size(t);
     short_guesses(t, more);
     short_joinings(t, more);
     t.edges = true;
