@@ -1,6 +1,6 @@
 // The functions of arrays: judge, rebuild, first, next and count.
 use super::calls::{done, fail, refused, Answer, Outcome, Tally};
-use super::definitions::Standing;
+use super::definitions::{self, Standing};
 use super::inputs::{broken, encode, kinds, letters, other, rooms, row, sizes, Dice, ALPHABETS, LENGTHS, LETTERS, LIMIT};
 use super::plain;
 
@@ -71,7 +71,7 @@ fn short_arrays(t: &mut Tally, a: usize, n: usize, standing: &Standing) {
     }
 }
 
-fn definitions(t: &mut Tally, most: usize) {
+fn by_definition(t: &mut Tally, most: usize) {
     for a in 1..=LETTERS {
         let most = if a <= 5 { most } else { most - 2 };
         let standing = Standing::new(a, most);
@@ -81,6 +81,29 @@ fn definitions(t: &mut Tally, most: usize) {
             let first = standing.list(n).remove(0);
             held("first", a, &[], &(done(0), Some(first.clone())), &(done(0), Some(plain::first(a, n))));
             t.first(a, n, n, &(done(0), Some(first)));
+        }
+    }
+}
+
+// Plain code on arrays of a middle length: judged as the rules have it, the rebuilt row has the array's echoes, and the next array stands and is greater.
+fn held_longer(rounds: usize) {
+    let mut d = Dice(5);
+    for round in 0..rounds {
+        let n = round % 60;
+        let mut e = echoes(&row(&mut d, n));
+        if n > 0 && d.below(2) == 0 {
+            let i = d.below(n);
+            e[i] = other(&mut d, &e, i);
+        }
+        let a = 1 + d.below(5);
+        let judged: Outcome<u8> = (definitions::judge_by_rules(a, &e), None);
+        held("judgement", a, &e, &judged, &(plain::judge(a, &e), None));
+        if let Some(row) = plain::rebuild(a, &e).1 {
+            held("row's echoes", a, &e, &(done(0), Some(e.clone())), &(done(0), Some(definitions::lists(&row).echoes)));
+        }
+        if let Some(next) = plain::next(a, &e).1 {
+            held("judgement of the next", a, &e, &(done(0), None::<Vec<u8>>), &(definitions::judge_by_rules(a, &next), None));
+            held("order of the next", a, &e, &(done(1), None::<Vec<u8>>), &(done((next > e) as usize), None));
         }
     }
 }
@@ -343,9 +366,10 @@ fn counts(t: &mut Tally, counted: usize, most: usize) {
 // ---- all of them
 
 pub fn check(t: &mut Tally, d: &mut Dice, long: bool) {
-    refusals(t);
-    definitions(t, if long { 7 } else { 6 });
+    held_longer(6000);
+    by_definition(t, if long { 7 } else { 6 });
     listings(t, if long { 8 } else { 6 }, if long { 11 } else { 8 });
+    refusals(t);
     each_place(t, d, if long { 300 } else { 30 });
     long_arrays(t, d, if long { 100_000 } else { 10_000 });
     t.edges = true;

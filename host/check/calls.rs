@@ -42,29 +42,6 @@ pub fn refused(number: u64, place: usize) -> Answer {
 // The answer, and what is then at the start of the buffer that was lent. With None it is as it came.
 pub type Outcome<T> = (Answer, Option<Vec<T>>);
 
-// How an answer is packed: number, place and value behind each other, or number and count.
-#[derive(Clone, Copy)]
-enum Packing {
-    Whole,
-    Counted,
-}
-
-impl Packing {
-    fn pack(self, answer: Answer) -> u64 {
-        match self {
-            Packing::Whole => answer.number + (answer.place << 8) + (answer.value << 24),
-            Packing::Counted => answer.number + 4 * answer.value,
-        }
-    }
-
-    fn shown(self, packed: u64) -> String {
-        match self {
-            Packing::Whole => format!("number {}, place {}, value {} ({:#x})", packed % 256, packed / 256 % 65536, packed >> 24, packed),
-            Packing::Counted => format!("number {}, count {} ({:#x})", packed % 4, packed / 4, packed),
-        }
-    }
-}
-
 // ---- lent slices
 
 pub trait Cell: Copy + PartialEq + Debug {
@@ -157,7 +134,7 @@ impl<T: Cell> Lent<T> {
     }
 }
 
-// Memory between two stretches that no one can touch, neither to write nor to read. They are 64 KiB, the largest page there is.
+// Memory between two stretches that no one can touch, neither to write nor to read. They are 64 KiB, whole pages on every machine that runs this.
 struct Ground {
     start: *mut u8,
 }
@@ -232,6 +209,27 @@ enum Function {
     Joining,
 }
 
+impl Function {
+    fn name(self) -> &'static str {
+        NAMES[self as usize]
+    }
+
+    // Number, place and value behind each other; for a count, number and count.
+    fn pack(self, answer: Answer) -> u64 {
+        match self {
+            Function::Count => answer.number + 4 * answer.value,
+            _ => answer.number + (answer.place << 8) + (answer.value << 24),
+        }
+    }
+
+    fn shown(self, packed: u64) -> String {
+        match self {
+            Function::Count => format!("number {}, count {} ({:#x})", packed % 4, packed / 4, packed),
+            _ => format!("number {}, place {}, value {} ({:#x})", packed % 256, packed / 256 % 65536, packed >> 24, packed),
+        }
+    }
+}
+
 const NAMES: [&str; 12] = ["echoes", "reach", "looks", "judge", "rebuild", "count", "first", "next", "sheet", "guess", "closing", "joining"];
 
 // A list in a message, cut to a readable length.
@@ -269,9 +267,10 @@ impl Tally {
         println!("{} inputs, each answered as it should be", self.inputs.iter().sum::<u64>());
     }
 
+    // Calls in each way that there is, counts, and compares. x and y are the slices; a function with fewer has none in their place.
     fn call<T: Cell, U: Cell>(
         &mut self,
-        (function, packing): (Function, Packing),
+        function: Function,
         input: &dyn Fn() -> String,
         expected: Answer,
         (mut x, mut y): (Lent<T>, Lent<U>),
@@ -286,7 +285,7 @@ impl Tally {
             let count = &mut self.inputs[function as usize];
             *count += 1;
             let guards = 16 + *count as usize % 32;
-            let what = || format!("{}, {:?}: {}", NAMES[function as usize], way, input());
+            let what = || format!("{}, {:?}: {}", function.name(), way, input());
             let (p, q) = (x.lay(way, guards, &self.grounds[0]), y.lay(way, guards + 1, &self.grounds[1]));
             let mut asked: &dyn Fn() -> String = &what;
             ASKED.store(&mut asked as *mut &dyn Fn() -> String as *mut (), Ordering::SeqCst);
@@ -294,8 +293,8 @@ impl Tally {
             ASKED.store(std::ptr::null_mut(), Ordering::SeqCst);
             x.fetch(way, &self.grounds[0]);
             y.fetch(way, &self.grounds[1]);
-            if got != packing.pack(expected) {
-                fail(&what(), &packing.shown(packing.pack(expected)), &packing.shown(got));
+            if got != function.pack(expected) {
+                fail(&what(), &function.shown(function.pack(expected)), &function.shown(got));
             }
             if let Some((expected, got)) = x.difference().or_else(|| y.difference()) {
                 fail(&what(), &expected, &got);
@@ -307,28 +306,28 @@ impl Tally {
         let lent = (Lent::read("row", row), Lent::buffer("out", room, &outcome.1));
         let input = || format!("A {}, row {}, out {}", a, shown(row), room);
         let c = |r: *mut u8, out: *mut u16| unsafe { claybobbin_echoes(a, r, row.len(), out, room) };
-        self.call((Function::Echoes, Packing::Whole), &input, outcome.0, lent, &c);
+        self.call(Function::Echoes, &input, outcome.0, lent, &c);
     }
 
     pub fn reach(&mut self, a: usize, row: &[u8], room: usize, outcome: &Outcome<u16>) {
         let lent = (Lent::read("row", row), Lent::buffer("out", room, &outcome.1));
         let input = || format!("A {}, row {}, out {}", a, shown(row), room);
         let c = |r: *mut u8, out: *mut u16| unsafe { claybobbin_reach(a, r, row.len(), out, room) };
-        self.call((Function::Reach, Packing::Whole), &input, outcome.0, lent, &c);
+        self.call(Function::Reach, &input, outcome.0, lent, &c);
     }
 
     pub fn looks(&mut self, a: usize, row: &[u8], expected: Answer) {
         let lent = (Lent::read("row", row), Lent::<u8>::none());
         let input = || format!("A {}, row {}", a, shown(row));
         let c = |r: *mut u8, _: *mut u8| unsafe { claybobbin_looks(a, r, row.len()) };
-        self.call((Function::Looks, Packing::Whole), &input, expected, lent, &c);
+        self.call(Function::Looks, &input, expected, lent, &c);
     }
 
     pub fn judge(&mut self, a: usize, n: usize, bytes: &[u8], expected: Answer) {
         let lent = (Lent::read("bytes", bytes), Lent::<u8>::none());
         let input = || format!("A {}, n {}, bytes {}", a, n, shown(bytes));
         let c = |b: *mut u8, _: *mut u8| unsafe { claybobbin_judge(a, n, b, bytes.len()) };
-        self.call((Function::Judge, Packing::Whole), &input, expected, lent, &c);
+        self.call(Function::Judge, &input, expected, lent, &c);
     }
 
     pub fn array(&mut self, a: usize, e: &[u16], expected: Answer) {
@@ -339,41 +338,41 @@ impl Tally {
         let lent = (Lent::read("e", e), Lent::buffer("row", room, &outcome.1));
         let input = || format!("A {}, e {}, row {}", a, shown(e), room);
         let c = |e_: *mut u16, row: *mut u8| unsafe { claybobbin_rebuild(a, e_, e.len(), row, room) };
-        self.call((Function::Rebuild, Packing::Whole), &input, outcome.0, lent, &c);
+        self.call(Function::Rebuild, &input, outcome.0, lent, &c);
     }
 
     pub fn count(&mut self, a: usize, n: usize, expected: Answer) {
         let input = || format!("A {}, n {}", a, n);
         let c = |_: *mut u8, _: *mut u8| unsafe { claybobbin_count(a, n) };
-        self.call((Function::Count, Packing::Counted), &input, expected, (Lent::<u8>::none(), Lent::<u8>::none()), &c);
+        self.call(Function::Count, &input, expected, (Lent::<u8>::none(), Lent::<u8>::none()), &c);
     }
 
     pub fn first(&mut self, a: usize, n: usize, room: usize, outcome: &Outcome<u16>) {
         let lent = (Lent::buffer("out", room, &outcome.1), Lent::<u8>::none());
         let input = || format!("A {}, n {}, out {}", a, n, room);
         let c = |out: *mut u16, _: *mut u8| unsafe { claybobbin_first(a, n, out, room) };
-        self.call((Function::First, Packing::Whole), &input, outcome.0, lent, &c);
+        self.call(Function::First, &input, outcome.0, lent, &c);
     }
 
     pub fn next(&mut self, a: usize, e: &[u16], outcome: &Outcome<u16>) {
         let lent = (Lent::new("e", e.to_vec(), outcome.1.as_deref()), Lent::<u8>::none());
         let input = || format!("A {}, e {}", a, shown(e));
         let c = |e_: *mut u16, _: *mut u8| unsafe { claybobbin_next(a, e_, e.len()) };
-        self.call((Function::Next, Packing::Whole), &input, outcome.0, lent, &c);
+        self.call(Function::Next, &input, outcome.0, lent, &c);
     }
 
     pub fn sheet(&mut self, a: usize, row: &[u8], room: usize, outcome: &Outcome<u8>) {
         let lent = (Lent::read("row", row), Lent::buffer("buffer", room, &outcome.1));
         let input = || format!("A {}, row {}, buffer {}", a, shown(row), room);
         let c = |r: *mut u8, buffer: *mut u8| unsafe { claybobbin_sheet(a, r, row.len(), buffer, room) };
-        self.call((Function::Sheet, Packing::Whole), &input, outcome.0, lent, &c);
+        self.call(Function::Sheet, &input, outcome.0, lent, &c);
     }
 
     pub fn guess(&mut self, a: usize, hidden: &[u8], guess: &[u8], expected: Answer) {
         let lent = (Lent::read("hidden", hidden), Lent::read("guess", guess));
         let input = || format!("A {}, hidden {}, guess {}", a, shown(hidden), shown(guess));
         let c = |h: *mut u8, g: *mut u8| unsafe { claybobbin_guess(a, h, hidden.len(), g, guess.len()) };
-        self.call((Function::Guess, Packing::Whole), &input, expected, lent, &c);
+        self.call(Function::Guess, &input, expected, lent, &c);
     }
 
     // The two rows are parts of one slice: what is only read may overlap.
@@ -381,27 +380,27 @@ impl Tally {
         let lent = (Lent::read("both", whole), Lent::<u8>::none());
         let input = || format!("A {}, hidden {:?} and guess {:?} of {}", a, hidden, guess, shown(whole));
         let c = |w: *mut u8, _: *mut u8| unsafe { claybobbin_guess(a, w.add(hidden.start), hidden.len(), w.add(guess.start), guess.len()) };
-        self.call((Function::Guess, Packing::Whole), &input, expected, lent, &c);
+        self.call(Function::Guess, &input, expected, lent, &c);
     }
 
     pub fn closing(&mut self, row: &[u8], expected: Answer) {
         let lent = (Lent::read("row", row), Lent::<u8>::none());
         let input = || format!("row {}", shown(row));
         let c = |r: *mut u8, _: *mut u8| unsafe { claybobbin_closing(r, row.len()) };
-        self.call((Function::Closing, Packing::Whole), &input, expected, lent, &c);
+        self.call(Function::Closing, &input, expected, lent, &c);
     }
 
     pub fn joining(&mut self, left: &[u8], right: &[u8], expected: Answer) {
         let lent = (Lent::read("left", left), Lent::read("right", right));
         let input = || format!("left {}, right {}", shown(left), shown(right));
         let c = |l: *mut u8, r: *mut u8| unsafe { claybobbin_joining(l, left.len(), r, right.len()) };
-        self.call((Function::Joining, Packing::Whole), &input, expected, lent, &c);
+        self.call(Function::Joining, &input, expected, lent, &c);
     }
 
     pub fn joining_within(&mut self, whole: &[u8], left: Range<usize>, right: Range<usize>, expected: Answer) {
         let lent = (Lent::read("both", whole), Lent::<u8>::none());
         let input = || format!("left {:?} and right {:?} of {}", left, right, shown(whole));
         let c = |w: *mut u8, _: *mut u8| unsafe { claybobbin_joining(w.add(left.start), left.len(), w.add(right.start), right.len()) };
-        self.call((Function::Joining, Packing::Whole), &input, expected, lent, &c);
+        self.call(Function::Joining, &input, expected, lent, &c);
     }
 }

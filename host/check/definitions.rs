@@ -146,6 +146,12 @@ impl Standing {
     }
 }
 
+// The first place that the rules do not let stand.
+pub fn judge_by_rules(a: usize, e: &[u16]) -> Answer {
+    let number = |i: usize| number(a, &e[..i - 1], e[i - 1]);
+    (1..=e.len()).find(|&i| number(i) != 0).map_or(done(0), |i| refused(number(i), i))
+}
+
 // The number of the value m behind the places of e, in the words of the rules, with lists for the words.
 fn number(a: usize, e: &[u16], m: u16) -> u64 {
     let echo = |place: u16| e[place as usize - 1];

@@ -16,15 +16,27 @@ fn lists(row: &[u8]) -> Lists {
 }
 
 // Plain code against the definitions.
+fn held_row(row: &[u8]) {
+    let (expected, got) = (definitions::lists(row), plain::lists(row));
+    if expected != got {
+        fail(&format!("plain lists of {:?}", row), &format!("{:?}", expected), &format!("{:?}", got));
+    }
+}
+
+fn held_pair(left: &[u8], right: &[u8]) {
+    let (expected, got) = (definitions::joining(left, right), plain::joining(left, right));
+    if expected != got {
+        fail(&format!("plain joining of {:?} and {:?}", left, right), &expected.to_string(), &got.to_string());
+    }
+}
+
+// Every short row and every pair of the shortest, then some of a middle length.
 pub fn held() {
     let mut pairs: Vec<Vec<u8>> = Vec::new();
     for (cards, most) in [(&b"a"[..], SHORT), (b"ab", 12), (b"abc", 7), (b"abcd", 5)] {
         for n in 0..=most {
             each_row(cards, n, &mut |row| {
-                let (expected, got) = (definitions::lists(row), plain::lists(row));
-                if expected != got {
-                    fail(&format!("plain lists of {:?}", row), &format!("{:?}", expected), &format!("{:?}", got));
-                }
+                held_row(row);
                 if n <= 5 {
                     pairs.push(row.to_vec());
                 }
@@ -32,12 +44,15 @@ pub fn held() {
         }
     }
     for left in &pairs {
-        for right in &pairs {
-            let (expected, got) = (definitions::joining(left, right), plain::joining(left, right));
-            if expected != got {
-                fail(&format!("plain joining of {:?} and {:?}", left, right), &expected.to_string(), &got.to_string());
-            }
-        }
+        pairs.iter().for_each(|right| held_pair(left, right));
+    }
+    let mut d = Dice(3);
+    for round in 0..400 {
+        let row = row(&mut d, round / 2);
+        held_row(&row);
+        let (i, j) = (d.below(row.len() + 1), d.below(row.len() + 1));
+        held_pair(&row[..i], &row[j..]);
+        held_pair(&row, &[&row[i..], &row[..j]].concat());
     }
 }
 
