@@ -290,6 +290,22 @@ fn hostile_guesses(t: &mut Tally, d: &mut Dice) {
     }
 }
 
+// Rows of the benchmark's kinds, with one card changed at chosen places.
+fn changed_guesses(t: &mut Tally, d: &mut Dice) {
+    for n in [1, 2, 33, 900, LIMIT - 1, LIMIT] {
+        for hidden in kinds(d, n) {
+            for i in [0, 1, n / 2, n.saturating_sub(2), n - 1] {
+                for card in [b'a', b'b', b'z', b'{'] {
+                    let mut changed = hidden.clone();
+                    changed[i.min(n - 1)] = card;
+                    guess(t, LETTERS, &hidden, &changed);
+                    guess(t, LETTERS, &changed, &hidden);
+                }
+            }
+        }
+    }
+}
+
 // The hidden row itself, by other letters, with one card changed, with a bad card in either or in both, and of another kind.
 fn long_guesses(t: &mut Tally, d: &mut Dice, rounds: usize) {
     for _ in 0..rounds {
@@ -435,6 +451,7 @@ pub fn check(t: &mut Tally, d: &mut Dice, long: bool) {
     hostile_rows(t, d);
     hostile_guesses(t, d);
     long_rows(t, d, rounds);
+    changed_guesses(t, d);
     long_guesses(t, d, rounds);
     closings(t, d, more, rounds);
     long_joinings(t, d, rounds);
