@@ -1,6 +1,6 @@
 #!/bin/sh
 # The host side: the C loader prints what was written by hand, the example of docs/HOST.md what it says there, the independent check finds no difference among
-# over three million inputs and counts 20 places as the expected output of cases_listing has it, and the benchmark still runs (a round of it, whose figures nobody
+# over five million inputs and counts 20 places as the expected output of cases_listing has it, and the benchmark still runs (a round of it, whose figures nobody
 # judges). Each program has to end with status 0; what it printed is compared after that.
 set -eu
 cd "$(dirname "$0")/../.."
