@@ -1,6 +1,8 @@
 // From echoes: the number of a value behind an array that stands. An array is held in a table of 4,096 entries, of which its echoes are the first. A
 // reference to such a table travels in a register, where a slice goes through memory: so the walks, which call themselves on the next echo, run as loops and
 // need no stack.
+#![tactic(auto)]
+
 ghost use Rattle.std.specs.Prelude.{◌≡◌, suc, ◌+◌, ◌≤◌, ◌<◌, length, take};
 ghost use Rattle.words.specs.Lists.{at};
 ghost use Rattle.words.specs.Numbers.{limit};

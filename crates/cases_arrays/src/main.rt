@@ -1,4 +1,5 @@
 // From echoes: judging and rebuilding. The sums of long texts are worked out from the definitions by host/tests/expected.sh.
+#![tactic(auto)]
 
 // A label, what judge answers, what rebuild answers with a row of as many dots, and the row that it leaves.
 fn judged_in(label: &[u8], a: usize, e: &[u16], row: &mut [u8]) {

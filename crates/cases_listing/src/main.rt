@@ -1,6 +1,8 @@
 // Counting, the first array and the next. The walks and the sums of long lists are worked out from the definitions by host/tests/expected.sh; the counts over
 // 26 letters for n up to 10 are published in 001, those over 1 and 2 letters are 01's, and those for n 20 over 3 and 26 letters are counted by 001's figures in
 // host/check.rs, which host/tests/host.sh compares with the expected output.
+#![tactic(auto)]
+
 use show::{rise, set_last};
 
 // Every array of the buffer's length over a letters by first and next, a line each, and at the end the last answer and how many there were.

@@ -1,5 +1,6 @@
 // From cards: echoes, looks and strips. The sums of long lists and texts, and the looks at the limit, are worked out from the definitions by
 // host/tests/expected.sh.
+#![tactic(auto)]
 
 // A label, what echoes answers, and the buffer that it leaves.
 fn echoes_in(label: &[u8], a: usize, row: &[u8], out: &mut [u16]) {

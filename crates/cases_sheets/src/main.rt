@@ -1,4 +1,5 @@
 // Reach, sheets and guesses. The sums of long lists and texts are worked out from the definitions by host/tests/expected.sh.
+#![tactic(auto)]
 
 // A label, what reach answers, and the table that it leaves.
 fn reach_in(label: &[u8], a: usize, row: &[u8], out: &mut [u16]) {

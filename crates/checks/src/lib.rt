@@ -1,4 +1,6 @@
 // The checks of what callers hand in, each written once.
+#![tactic(auto)]
+
 ghost use Rattle.std.specs.Prelude.{◌≡◌, [], ◌∷◌, length};
 ghost use Rattle.words.specs.Numbers.{letter as letter_of, outside as outside_of, named as named_of, unless as unless_of, alphabet as alphabet_of, long as long_of, matching as matching_of, cards as cards_of, sizes as sizes_of, lent as lent_of, paired as paired_of, limit, refusal};
 

@@ -1,4 +1,6 @@
 // Claybobbin: every entry open to callers, and nothing else is open. Each takes every input and refuses what is bad by number and place.
+#![tactic(auto)]
+
 ghost use Rattle.std.specs.Prelude.{◌≡◌};
 ghost use Rattle.words.specs.Strips.{closing as closing_of, joining as joining_of};
 ghost use Rattle.words.specs.Outcomes.{echoes_outcome, reach_outcome, looks_outcome, sheet_outcome, guess_outcome, judge_outcome, count_outcome, Rebuilds, Starts, Steps};
@@ -7,7 +9,7 @@ pub use words::Answer;
 use words::{COUNT_LIMIT, DIFFERS, DONE, LIMIT};
 
 // An answer with a count, which is 0 beside every number but 0.
-#[derive(Drop)]
+#[derive(Clone, Copy)]
 pub struct Counted {
     pub number: u8,
     pub place: usize,
@@ -98,7 +100,7 @@ pub fn rebuild(a: usize, e: &[u16], row: &mut [u8]) -> Answer
 }
 
 // An answer with a length, which is 0 beside every number but 0.
-#[derive(Drop)]
+#[derive(Clone, Copy)]
 pub struct Written {
     pub number: u8,
     pub place: usize,

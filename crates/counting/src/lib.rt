@@ -1,4 +1,6 @@
 // Counting the standing arrays, and the published counts. An array is held in a table of 4,096 entries, as in `arrays`.
+#![tactic(auto)]
+
 ghost use Rattle.std.specs.Prelude.{◌≡◌, ◌+◌, ◌-◌, ◌≤◌, ◌<◌, length, take};
 ghost use Rattle.words.specs.Lists.{at};
 ghost use Rattle.words.specs.Numbers.{limit};

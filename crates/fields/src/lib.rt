@@ -1,5 +1,7 @@
 // Numbers between tabs, and a line of a word and numbers: written, and counted before a byte is written. Each writer gets the part of the buffer from the
 // current end onward and answers how many bytes it wrote.
+#![tactic(auto)]
+
 ghost use Rattle.std.specs.Prelude.{◌≡◌, [], ◌∷◌, ◌+◌, ◌≤◌, ◌<◌, length};
 ghost use Rattle.words.specs.Numbers.{limit};
 ghost use Rattle.words.specs.Sheet.{decimal, fields, line};

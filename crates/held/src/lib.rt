@@ -1,4 +1,6 @@
 // Work on an array that a table holds, where no check refuses: judging it, its least row, the first array, the next.
+#![tactic(auto)]
+
 ghost use Rattle.std.specs.Prelude.{◌≡◌, ◌≤◌, length};
 ghost use Rattle.words.specs.Numbers.{limit, lent, sizes, DONE as done};
 ghost use Rattle.words.specs.Stand.{verdict};

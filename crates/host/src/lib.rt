@@ -1,5 +1,7 @@
 // What a game written in C calls: every entry of the library, an array that is judged being given as bytes. Each is one call and one packing of its whole answer
 // in 64 bits (docs/HOST.md).
+#![tactic(auto)]
+
 ghost use Rattle.std.specs.Prelude.{◌≡◌, [], ◌∷◌, ◌+◌, ◌*◌, ◌^◌, ◌≤◌, ◌<◌, length};
 ghost use Rattle.words.specs.Numbers.{DONE as done, limit, matching, refusal, sizes};
 ghost use Rattle.words.specs.Strips.{closed, joint};

@@ -1,4 +1,6 @@
 // Judging an array of echoes, held in a table as in `arrays`: number and first bad place. Three short ways stand before a walk along the chain.
+#![tactic(auto)]
+
 ghost use Rattle.std.specs.Prelude.{◌≡◌, true, ◌+◌, ◌≤◌, ◌<◌, length};
 ghost use Rattle.words.specs.Lists.{at};
 ghost use Rattle.words.specs.Numbers.{limit};

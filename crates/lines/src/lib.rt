@@ -1,5 +1,7 @@
 // The line that the sheet program reads, taken in pieces of any size and of any length in all. Of the row as many cards are kept as the lent buffer has
 // room for.
+#![tactic(auto)]
+
 ghost use Rattle.std.specs.Prelude.{◌≡◌, [], ◌∷◌, ◌<◌};
 ghost use Rattle.lines.specs.Line.{digit};
 ghost use Rattle.lines.specs.Taking.{gave, Starts, Counts, Grows, Stores, Takes, Tells};
@@ -18,14 +20,14 @@ const NO_NUMBER: u8 = 3;
 // More tabs are not counted: two are too many already.
 const MANY: u8 = 2;
 
-#[derive(Drop)]
+#[derive(Clone, Copy)]
 pub struct Figures {
     pub digits: u8,
     pub tens: u8,
     pub ones: u8,
 }
 
-#[derive(Drop)]
+#[derive(Clone, Copy)]
 pub struct State {
     pub ended: bool,
     pub tabs: u8,
@@ -34,7 +36,7 @@ pub struct State {
 }
 
 // What the line means: 0, A and how many cards of the row the buffer holds; or 1.
-#[derive(Drop)]
+#[derive(Clone, Copy)]
 pub struct Line {
     pub number: u8,
     pub a: usize,

@@ -1,4 +1,6 @@
 // Stepping through the standing arrays: the first, and the next of each. An array is held in a table of 4,096 entries, as in `arrays`.
+#![tactic(auto)]
+
 ghost use Rattle.std.specs.Prelude.{◌≡◌, suc, ◌+◌, ◌≤◌, ◌<◌, length, take};
 ghost use Rattle.words.specs.Lists.{at};
 ghost use Rattle.words.specs.Numbers.{limit};

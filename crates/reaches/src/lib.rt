@@ -1,4 +1,6 @@
 // The reach table of a row, in linear time. A reach stands in a table as an echo does.
+#![tactic(auto)]
+
 ghost use Rattle.std.specs.Prelude.{◌≡◌, ◌+◌, ◌≤◌, ◌<◌, eqb, length};
 ghost use Rattle.words.specs.Numbers.{limit};
 ghost use Rattle.words.specs.Rows.{card, reach, reaches as reaches_of};

@@ -1,4 +1,6 @@
 // The least row of an array of echoes that stands, held in a table as in `arrays`.
+#![tactic(auto)]
+
 ghost use Rattle.std.specs.Prelude.{◌≡◌, suc, ◌+◌, ◌≤◌, ◌<◌, eqb, length, take};
 ghost use Rattle.words.specs.Lists.{any, at, each};
 ghost use Rattle.words.specs.Rows.{card};

@@ -1,5 +1,7 @@
 // From cards: echoes, looks and overlaps. Here a row is read only by `card_at`, a table of echoes only by `echo_at`, and written only by `put_echo`; a part of
 // a row is cut only by `part`.
+#![tactic(auto)]
+
 ghost use Rattle.std.specs.Prelude.{◌≡◌, ◌+◌, ◌≤◌, ◌<◌, length};
 ghost use Rattle.words.specs.Lists.{at, placed};
 ghost use Rattle.words.specs.Numbers.{limit};

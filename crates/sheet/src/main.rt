@@ -1,4 +1,6 @@
 // Reads one line, A, a tab and a row, from standard input and prints the sheet of the row, or the number and place of the refusal.
+#![tactic(auto)]
+
 ghost use Rattle.std.specs.Prelude.{◌≡◌, true, ◌-◌, ◌^◌, ◌<◌, length};
 ghost use Rattle.words.specs.Numbers.{limit};
 ghost use Rattle.lines.specs.Taking.{Read, Reads};

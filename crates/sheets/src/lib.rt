@@ -1,4 +1,6 @@
 // The sheet: its five lines, each written into the buffer behind the one before, where there is room for all.
+#![tactic(auto)]
+
 ghost use Rattle.std.specs.Prelude.{◌≡◌, ◌+◌, ◌*◌, ◌≤◌, ◌<◌, length};
 ghost use Rattle.words.specs.Lists.{at};
 ghost use Rattle.words.specs.Rows.{Small};
@@ -141,7 +143,7 @@ fn all_len(n: u16, a: u16, e: &[u16], r: &[u16], looks: u16) -> usize
     k
 }
 
-#[derive(Drop)]
+#[derive(Clone, Copy)]
 pub struct Written {
     pub number: u8,
     pub length: usize,

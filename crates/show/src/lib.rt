@@ -1,4 +1,5 @@
 // What the programs of cases share: lines of tabbed fields, and arrays to start from.
+#![tactic(auto)]
 
 pub fn word(w: &[u8]) {
     io::write_all(1, w);

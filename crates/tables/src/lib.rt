@@ -1,4 +1,6 @@
 // Work that needs a table of echoes or reach: each table is a local of 4,096 entries, of which the first n are lent.
+#![tactic(auto)]
+
 ghost use Rattle.std.specs.Prelude.{◌≡◌, ◌≤◌, ◌<◌, length};
 ghost use Rattle.words.specs.Numbers.{letters, limit, differing};
 ghost use Rattle.words.specs.Rows.{card, echo, echoes, reaches, looks};

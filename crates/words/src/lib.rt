@@ -1,4 +1,6 @@
 // The numbers that come back, the limits, and how a number of a lent table is read.
+#![tactic(auto)]
+
 ghost use Rattle.std.specs.Prelude.{◌≡◌, ◌<◌};
 
 pub const DONE: u8 = 0;
@@ -33,7 +35,7 @@ pub const COUNT_LIMIT: usize = 20;
 pub const FIRST_LETTER: u8 = b'a';
 
 // What comes back: a number and its place. 0 at place 0 is done; any other number says why something is refused, and the place where.
-#[derive(Drop)]
+#[derive(Clone, Copy)]
 pub struct Answer {
     pub number: u8,
     pub place: usize,
