@@ -1,0 +1,13 @@
+-- `two_rows`. Assumes nothing.
+use Rattle.std.proofs.Common.{rules}
+use Rattle.words.proofs.Checks.{refusal_stop, refusal_on, refusal_last}
+use Rattle.checks.proofs.two_rows.Goals as goal
+
+pub returns-then-r-ne-DONE : goal.returns-then-r-ne-DONE
+returns-then-r-ne-DONE c = search (rules, refusal_stop)
+
+pub returns-then-r-ne-DONE-2 : goal.returns-then-r-ne-DONE-2
+returns-then-r-ne-DONE-2 c = search (rules, refusal_on, refusal_stop)
+
+pub returns : goal.returns
+returns c = search (rules, refusal_on, refusal_last)
