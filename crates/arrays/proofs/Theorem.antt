@@ -11,7 +11,7 @@ use Rattle.words.specs.Lists.{at}
 use Rattle.words.specs.Rows.{card, Alike}
 use Rattle.words.specs.Numbers.{DONE, IMPOSSIBLE, HIDDEN, FULL}
 use Rattle.words.specs.Stand.{RowOf, Stands, opens, weighed, verdict}
-use Rattle.words.specs.Least.{before, LeastRow, next_card, rebuilt}
+use Rattle.words.specs.Least.{LeastRow, next_card, rebuilt}
 use Rattle.words.proofs.Lists.{either, same?}
 use Rattle.words.proofs.Order.{lowest_least}
 use Rattle.arrays.specs.Steps.{Passes, Inside, Echoing, Breaks}

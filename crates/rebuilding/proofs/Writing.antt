@@ -9,7 +9,7 @@ use lib.Dec.{eqb}
 use lib.ListN.{length, take, set}
 use lib.Seq.{take-suc-set, take_all}
 use borrow.Author.Tests.{eq-eqb, ne_eqb}
-use Rattle.words.specs.Lists.{each, any, at}
+use Rattle.words.specs.Lists.{each, any}
 use Rattle.words.specs.Rows.{card, Small, Alike}
 use Rattle.words.specs.Numbers.{first_letter}
 use Rattle.words.specs.Stand.{possible}

@@ -9,7 +9,7 @@ use lib.Dec.{ltb, leb, eqb}
 use lib.ListN.{length}
 use lib.Seq.{ext_get_or}
 use borrow.Author.Tests.{eq-eqb, eqb-true, lt-leb, leb-false, ltb-true, ltb-false, not-true, not-false}
-use Rattle.words.specs.Lists.{places, at}
+use Rattle.words.specs.Lists.{at}
 use Rattle.words.specs.Rows.{card, echo, echoes}
 use Rattle.words.specs.Numbers.{DONE, ROOM, LAST, DIFFERS, differs, differing, named, unless, refusal, sizes, rowed, paired}
 use Rattle.words.specs.Stand.{Stands}
