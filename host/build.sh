@@ -4,7 +4,7 @@
 set -eu
 cd "$(dirname "$0")/.."
 out=target/host
-archive=target/staticlib/libhost.a
+archive=crates/host/out/libhost.a
 mkdir -p "$out"
 
 case $(uname -m) in
@@ -31,7 +31,9 @@ c_program() { # FILE PROGRAM: the header is plain C89, and C++ takes it
     "$cc" -std=c89 -O2 -static -Iinclude -o "$2" "$1" "$archive"
 }
 
-quietly rt staticlib host
+prove_archive() { (cd crates/host && rt lib); }
+
+quietly prove_archive
 
 for name in "$@"; do
     program=$out/$name.x86-64

@@ -83,29 +83,32 @@ silent
 
 # ---- a small repository
 
-mkdir -p "$room/repo/crates/hello/src" "$room/repo/crates/cases_hello/src" "$room/repo/crates/below/src" "$room/bin" "$room/kit/on/aarch64/toolchain/bin" || exit 2
+mkdir -p "$room/repo/crates/hello/src" "$room/repo/crates/cases_hello/src" "$room/repo/crates/below/src/out" "$room/bin" "$room/kit/on/aarch64/toolchain/bin" || exit 2
 cd "$room/repo" || exit 2
 cp "$root/claybobbin" .
 printf 'below:\nhello: below\n' >crates.txt
 echo '// Says hello.' >crates/hello/src/main.rt
 echo '// Cases.' >crates/cases_hello/src/main.rt
 echo '// A library.' >crates/below/src/lib.rt
+echo '// A part of it.' >crates/below/src/out/part.rt
 
 # a program that hands on its input, prints its arguments and its folder, and ends with status 7
 # shellcheck disable=SC2016
 printf '#!/bin/sh\ncat\necho "$#: $*"\npwd\nexit 7\n' >"$room/program"
-# rt reads all that it can, writes to both streams, and builds that program
+# rt reads all that it can, writes to both streams, builds that program in the crate's folder, and leaves its stamp and what it keeps of the crate below
 cat >"$room/bin/rt" <<END
 #!/bin/sh
-echo "\$*" >>"$room/asked"
-[ "\$1" != doc ] || { echo "$room/kit/docs/START-HERE.md"; exit; }
+[ "\$1" != doc ] || { echo doc >>"$room/asked"; echo "$room/kit/START-HERE.md"; exit; }
+echo "\${PWD##*/}: \$*" >>"$room/asked"
 cat >/dev/null
 echo 'rt on standard output'
 echo 'rt on standard error' >&2
 [ ! -e "$room/unproved" ] || exit 3
-mkdir -p target/bin target/stamp
-[ -e target/stamp/hello ] || echo proved >target/stamp/hello
-cp "$room/program" target/bin/hello
+mkdir -p out ../below/out
+echo proved >../below/out/kept
+cp "$room/program" out/hello
+echo proved >out/hello.stamp
+[ ! -e "$room/untried" ] || exit 1
 END
 # the emulator says what it was asked, and runs what is behind the words that are its own and the loader's
 cat >"$room/kit/on/aarch64/toolchain/bin/qemu-x86_64" <<END
@@ -138,16 +141,26 @@ prints "$room/hello"
 says 'proving and building hello'
 says 'rt on standard output'
 says 'rt on standard error'
-asked 'check hello'
+asked 'hello: all test'
 ends 'built' 7 ./claybobbin hello a 'b  c'
 prints "$room/hello"
 silent
 asked ''
-touch -t 200001010000 target/stamp/hello
+touch -t 200001010000 crates/hello/out/hello.stamp
 ends 'a source is younger' 7 ./claybobbin hello a 'b  c'
 prints "$room/hello"
-asked 'check hello'
-ends 'checked again' 7 ./claybobbin hello a 'b  c'
+asked 'hello: all test'
+ends 'proved again' 7 ./claybobbin hello a 'b  c'
+silent
+asked ''
+for source in crates/below/src/lib.rt crates/below/src/out/part.rt crates.txt; do
+    touch -d '1 second' "$source"
+    ends "$source is younger" 7 ./claybobbin hello a 'b  c'
+    asked 'hello: all test'
+    touch -t 200001010000 "$source"
+done
+touch -d '1 second' crates/below/out/kept
+ends 'what rt keeps is younger' 7 ./claybobbin hello a 'b  c'
 silent
 asked ''
 cd crates || exit 2
@@ -155,18 +168,26 @@ ends 'from a folder below' 7 ../claybobbin hello
 prints "$room/hello-crates"
 silent
 cd .. || exit 2
-rm target/bin/hello
+rm crates/hello/out/hello
 ends 'the program is gone' 7 ./claybobbin hello a 'b  c'
-asked 'check hello'
-rm target/stamp/hello
+asked 'hello: all test'
+rm crates/hello/out/hello.stamp
 ends 'the stamp is gone' 7 ./claybobbin hello a 'b  c'
-asked 'check hello'
-touch -t 200001010000 target/stamp/hello
-: >"$room/unproved"
-ends 'no longer proved' 1 ./claybobbin hello
-prints "$room/nothing"
-says 'hello is not proved'
-rm "$room/unproved" "$room/asked"
+asked 'hello: all test'
+for why in unproved untried; do # not proved any more; proved, and its run writes something else than it should
+    touch -t 200001010000 crates/hello/out/hello.stamp
+    : >"$room/$why"
+    for time in first second; do
+        ends "$why, the $time time" 1 ./claybobbin hello
+        prints "$room/nothing"
+        says 'hello is not proved'
+        asked 'hello: all test'
+    done
+    rm "$room/$why"
+    ends "no longer $why" 7 ./claybobbin hello a 'b  c'
+    prints "$room/hello"
+    asked 'hello: all test'
+done
 
 mkdir -p crates/later/src
 echo '// Added later.' >crates/later/src/main.rt
@@ -188,7 +209,7 @@ echo aarch64 >"$room/machine"
 tools=$room/kit/on/aarch64/toolchain
 ends 'a program, emulated' 7 ./claybobbin hello a 'b  c'
 prints "$room/hello"
-says "^emulated -cpu qemu64 $tools/lib/ld-linux-x86-64.so.2 --library-path $tools/lib $room/repo/target/bin/hello a b  c\$"
+says "^emulated -cpu qemu64 $tools/lib/ld-linux-x86-64.so.2 --library-path $tools/lib $room/repo/crates/hello/out/hello a b  c\$"
 asked doc
 ends 'run, emulated' 7 ./claybobbin run uname a 'b  c'
 prints "$room/hello"
