@@ -1,7 +1,7 @@
 #!/bin/sh
 # Sets up what the host programs are built with, from Debian's packages, and says what it installs. Where all is there it does nothing.
-# On x86-64 these are gcc, g++ and rustc. On Arm they are those that make x86-64 programs, since the archive is x86-64: the kit's emulator runs them. On both
-# pkg-config tells a C compiler where an installed library is.
+# On x86-64 these are gcc, g++ and rustc. On Arm they are those that make x86-64 programs, since the archive is x86-64: the kit's emulator runs them, where
+# it has one. On both pkg-config tells a C compiler where an installed library is.
 set -eu
 packages=''
 
