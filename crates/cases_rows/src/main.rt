@@ -5,7 +5,13 @@
 use std::io;
 
 // A label, what echoes answers, and the buffer that it leaves.
-fn echoes_in(rt: &impl Print, label: &[u8], a: usize, row: &[u8], out: &mut [u16]) -> io::Result<()> {
+fn echoes_in(
+    rt: &impl Print,
+    label: &[u8],
+    a: usize,
+    row: &[u8],
+    out: &mut [u16],
+) -> io::Result<()> {
     let r = corridor::echoes(a, row, out);
     show::word(rt, label)?;
     show::answer(rt, r)?;

@@ -4,7 +4,13 @@
 use std::io;
 
 // A label, what reach answers, and the table that it leaves.
-fn reach_in(rt: &impl Print, label: &[u8], a: usize, row: &[u8], out: &mut [u16]) -> io::Result<()> {
+fn reach_in(
+    rt: &impl Print,
+    label: &[u8],
+    a: usize,
+    row: &[u8],
+    out: &mut [u16],
+) -> io::Result<()> {
     let r = corridor::reach(a, row, out);
     show::word(rt, label)?;
     show::answer(rt, r)?;
