@@ -7,8 +7,8 @@ ghost use Rattle.lines.specs.Taking.{Read, Reads};
 ghost use Rattle.sheet.specs.Outcome.{Answers};
 
 use corridor::Written;
-use libc::{STDIN_FILENO, STDOUT_FILENO};
 use lines::State;
+use std::io;
 use words::DONE;
 
 // One card more than the limit is kept of a row, so that a longer one is refused as it would be whole.
@@ -20,24 +20,26 @@ const SHEET: usize = 61500;
 // A proved loop has to end, and nothing says that the input does: so the turns are counted down from a number that no run uses up.
 const TURNS: u64 = u64::MAX;
 
-// The state behind one read.
-fn read_some(s: State, row: &mut [u8]) -> State
+// As many bytes at most are asked for at once.
+const READ: usize = 65536;
+
+// The state behind one read. One that fails gives no byte, as one at the end of input.
+fn read_some(input: &mut impl io::Read, s: State, row: &mut [u8]) -> State
     ensures { Reads s row.old result row.new }
 {
-    let mut buf = io::large_buffer();
-    let got = libc::read(STDIN_FILENO, &mut buf);
-    let n = io::count(got, &buf);
+    let mut buf = [0u8; READ];
+    let n = input.read(&mut buf).unwrap_or(0);
     lines::after_read(s, row, &buf[..n])
 }
 
 // The state behind the line. Where it has not ended, every turn was used, and each took a byte at least.
-fn read_line(row: &mut [u8]) -> State
+fn read_line(input: &mut impl io::Read, row: &mut [u8]) -> State
     ensures { Read (2 ^ 64 - 1) result row.new }
 {
     let mut s = lines::start();
     let mut turns = TURNS;
     while turns > 0 && !s.ended {
-        s = read_some(s, row);
+        s = read_some(input, s, row);
         turns -= 1;
     }
     s
@@ -60,37 +62,39 @@ fn reply(s: State, row: &[u8], out: &mut [u8]) -> Written
     corridor::sheet(l.a, &row[..n], out)
 }
 
-fn print_refusal(number: u8, place: usize) {
-    io::write_all(STDOUT_FILENO, b"refused\t");
-    io::print_decimal(STDOUT_FILENO, number as u64);
-    io::write_all(STDOUT_FILENO, b"\t");
-    io::print_decimal(STDOUT_FILENO, place as u64);
-    io::write_all(STDOUT_FILENO, b"\n");
+fn print_refusal(rt: &impl Print, number: u8, place: usize) -> io::Result<()> {
+    println!(rt; "refused\t{number}\t{place}")
 }
 
-fn print_reply(s: State, row: &[u8], out: &mut [u8])
+fn print_reply(rt: &impl Print, s: State, row: &[u8], out: &mut [u8]) -> io::Result<()>
     requires { (s.ended ≡ true) × Read 0 s row.now × (limit < length row.now) }
 {
     let w = reply(s, row, out);
     let n = w.length;
     if w.number != DONE {
-        print_refusal(w.number, w.place);
+        print_refusal(rt, w.number, w.place)
     } else {
-        io::write_all(STDOUT_FILENO, &out[..n]);
+        rt.write_all(&out[..n])
     }
 }
 
-fn answer(row: &mut [u8], out: &mut [u8])
+fn answer(
+    rt: &impl Print,
+    input: &mut impl io::Read,
+    row: &mut [u8],
+    out: &mut [u8],
+) -> io::Result<()>
     requires { limit < length row.old }
 {
-    let s = read_line(row);
+    let s = read_line(input, row);
     if s.ended {
-        print_reply(s, row, out);
+        print_reply(rt, s, row, out)?;
     }
+    Ok(())
 }
 
-fn main() {
+fn main(rt: HostRuntime) -> io::Result<()> {
     let mut row = [0u8; KEPT];
     let mut out = [0u8; SHEET];
-    answer(&mut row, &mut out);
+    answer(&rt, &mut rt.stdin(), &mut row, &mut out)
 }

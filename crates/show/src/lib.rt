@@ -1,28 +1,29 @@
 // What the programs of cases share: lines of tabbed fields, and arrays to start from.
 #![tactic(auto)]
 
-pub fn word(w: &[u8]) {
-    io::write_all(1, w);
+use std::io;
+
+pub fn word(rt: &impl Print, w: &[u8]) -> io::Result<()> {
+    rt.write_all(w)
 }
 
-pub fn number(n: u64) {
-    io::write_all(1, b"\t");
-    io::print_decimal(1, n);
+pub fn number(rt: &impl Print, n: u64) -> io::Result<()> {
+    print!(rt; "\t{n}")
 }
 
-pub fn end() {
-    io::write_all(1, b"\n");
+pub fn end(rt: &impl Print) -> io::Result<()> {
+    rt.write_all(b"\n")
 }
 
-pub fn answer(r: corridor::Answer) {
-    number(r.number as u64);
-    number(r.place as u64);
+pub fn answer(rt: &impl Print, r: corridor::Answer) -> io::Result<()> {
+    number(rt, r.number as u64)?;
+    number(rt, r.place as u64)
 }
 
-pub fn counted(r: corridor::Counted) {
-    number(r.number as u64);
-    number(r.place as u64);
-    number(r.count);
+pub fn counted(rt: &impl Print, r: corridor::Counted) -> io::Result<()> {
+    number(rt, r.number as u64)?;
+    number(rt, r.place as u64)?;
+    number(rt, r.count)
 }
 
 fn wide(x: u16) -> u64 {
@@ -34,9 +35,9 @@ fn wide_byte(x: u8) -> u64 {
 }
 
 // The word sum, and a sum over all entries with their places.
-fn sum(n: u64) {
-    word(b"\tsum");
-    number(n);
+fn sum(rt: &impl Print, n: u64) -> io::Result<()> {
+    word(rt, b"\tsum")?;
+    number(rt, n)
 }
 
 // Each number times its place, places from 1, summed up: from the end on, each turn takes once more every number met so far. It is the sum modulo 2^64,
@@ -47,8 +48,8 @@ fn places(l: &[u16]) -> u64 {
     let mut i = l.len();
     while 0 < i {
         i -= 1;
-        met = std::num::wrapping_add_u64(met, wide(l[i]));
-        total = std::num::wrapping_add_u64(total, met);
+        met = met.wrapping_add(wide(l[i]));
+        total = total.wrapping_add(met);
     }
     total
 }
@@ -60,34 +61,34 @@ fn byte_places(t: &[u8]) -> u64 {
     let mut i = t.len();
     while 0 < i {
         i -= 1;
-        met = std::num::wrapping_add_u64(met, wide_byte(t[i]));
-        total = std::num::wrapping_add_u64(total, met);
+        met = met.wrapping_add(wide_byte(t[i]));
+        total = total.wrapping_add(met);
     }
     total
 }
 
 // Each number of the list; a list of over 20 by its last and by the sum of all with their places.
-pub fn list(l: &[u16]) {
+pub fn list(rt: &impl Print, l: &[u16]) -> io::Result<()> {
     if 20 < l.len() {
-        number(wide(l[l.len() - 1]));
-        sum(places(l));
-        return;
+        number(rt, wide(l[l.len() - 1]))?;
+        return sum(rt, places(l));
     }
     let mut i = 0;
     while i < l.len() {
-        number(wide(l[i]));
+        number(rt, wide(l[i]))?;
         i += 1;
     }
+    Ok(())
 }
 
 // The bytes of a text; of one of over 100 the last three and the sum of all with their places.
-pub fn text(t: &[u8]) {
+pub fn text(rt: &impl Print, t: &[u8]) -> io::Result<()> {
     if 100 < t.len() {
         let from = t.len() - 3;
-        word(&t[from..]);
-        sum(byte_places(t));
+        word(rt, &t[from..])?;
+        sum(rt, byte_places(t))
     } else {
-        word(t);
+        word(rt, t)
     }
 }
 

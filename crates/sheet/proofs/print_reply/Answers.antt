@@ -1,0 +1,10 @@
+-- `sheet::print_reply`. Assumes nothing.
+use Rattle.std.proofs.Common.{rules}
+use Rattle.sheet.proofs.Kept.{answers_within, answers_part}
+use Rattle.sheet.proofs.print_reply.Goals as goal
+
+pub slice_bounds-write_all-end : goal.slice_bounds-write_all-end
+slice_bounds-write_all-end g c = search (rules, answers_within)
+
+pub slice_bounds-write_all-end-else-w-ne-DONE : goal.slice_bounds-write_all-end-else-w-ne-DONE
+slice_bounds-write_all-end-else-w-ne-DONE g c = search (rules, answers_part)
