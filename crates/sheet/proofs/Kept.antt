@@ -18,6 +18,7 @@ use Rattle.lines.specs.Line.{line_of, meaning}
 use Rattle.lines.specs.Taking.{Read, Tells}
 use Rattle.lines.specs.declared.State.{State}
 use Rattle.lines.specs.declared.Line.{Line}
+use Rattle.lines.proofs.Pieces.{read_within}
 use Rattle.sheet.specs.Outcome.{line_outcome, Answers}
 
 -- of a row over the limit only A is told
@@ -81,3 +82,6 @@ module _ (s : State) (row old new : List ℕ) (n p k : ℕ) (read : Read 0 s row
 
   pub answers_part : length (take k new) ≡ k
   answers_part = length-take-le k new answers_within
+
+pub read_part : (s : State) (l : Line) (row : List ℕ) → Read 0 s row → Tells s l → length (take l.length row) ≡ l.length
+read_part s l row h t = length-take-le l.length row (read_within 0 s l row h t)
