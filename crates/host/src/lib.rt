@@ -50,8 +50,7 @@ fn packed(number: u8, place: usize, value: u64) -> u64
 }
 
 // Writes the echoes of the row. Numbers 0, 1, 2, 3 and 4.
-#[unsafe(no_mangle)]
-pub extern "C" fn claybobbin_echoes(a: usize, row: &[u8], out: &mut [u16]) -> u64
+pub fn claybobbin_echoes(a: usize, row: &[u8], out: &mut [u16]) -> u64
     ensures { (result, out.new) ≡ packed_buffer (echoes_outcome a row.now out.old) }
 {
     let r = corridor::echoes(a, row, out);
@@ -59,8 +58,7 @@ pub extern "C" fn claybobbin_echoes(a: usize, row: &[u8], out: &mut [u16]) -> u6
 }
 
 // Writes the reach table of the row. Numbers 0, 1, 2, 3 and 4.
-#[unsafe(no_mangle)]
-pub extern "C" fn claybobbin_reach(a: usize, row: &[u8], out: &mut [u16]) -> u64
+pub fn claybobbin_reach(a: usize, row: &[u8], out: &mut [u16]) -> u64
     ensures { (result, out.new) ≡ packed_buffer (reach_outcome a row.now out.old) }
 {
     let r = corridor::reach(a, row, out);
@@ -68,8 +66,7 @@ pub extern "C" fn claybobbin_reach(a: usize, row: &[u8], out: &mut [u16]) -> u64
 }
 
 // The value is the looks of the row. Numbers 0, 1, 2 and 4.
-#[unsafe(no_mangle)]
-pub extern "C" fn claybobbin_looks(a: usize, row: &[u8]) -> u64
+pub fn claybobbin_looks(a: usize, row: &[u8]) -> u64
     ensures { result ≡ packed_value (looks_outcome a row.now) }
 {
     let r = corridor::looks(a, row);
@@ -77,8 +74,7 @@ pub extern "C" fn claybobbin_looks(a: usize, row: &[u8]) -> u64
 }
 
 // Judges n echoes, two bytes each, low byte first. Numbers 0, 1, 2, 3, 5, 6 and 7.
-#[unsafe(no_mangle)]
-pub extern "C" fn claybobbin_judge(a: usize, n: usize, bytes: &[u8]) -> u64
+pub fn claybobbin_judge(a: usize, n: usize, bytes: &[u8]) -> u64
     ensures { result ≡ host_judge_outcome a n bytes.now }
 {
     let r = checked(a, n, bytes.len());
@@ -92,8 +88,7 @@ pub extern "C" fn claybobbin_judge(a: usize, n: usize, bytes: &[u8]) -> u64
 }
 
 // Judges the array and writes its least row. Numbers 0, 1, 2, 3, 5, 6 and 7.
-#[unsafe(no_mangle)]
-pub extern "C" fn claybobbin_rebuild(a: usize, e: &[u16], row: &mut [u8]) -> u64
+pub fn claybobbin_rebuild(a: usize, e: &[u16], row: &mut [u8]) -> u64
     ensures { Packs (λ s. Rebuilds a e.now row.old s row.new) result }
 {
     let r = corridor::rebuild(a, e, row);
@@ -101,8 +96,7 @@ pub extern "C" fn claybobbin_rebuild(a: usize, e: &[u16], row: &mut [u8]) -> u64
 }
 
 // Counts the arrays of n places that stand over a letters: number + 4 * count. Numbers 0, 1 and 2.
-#[unsafe(no_mangle)]
-pub extern "C" fn claybobbin_count(a: usize, n: usize) -> u64
+pub fn claybobbin_count(a: usize, n: usize) -> u64
     ensures { result ≡ host_count_outcome a n }
 {
     let r = corridor::count(a, n);
@@ -110,8 +104,7 @@ pub extern "C" fn claybobbin_count(a: usize, n: usize) -> u64
 }
 
 // Writes the first array of n places. Numbers 0, 1, 2 and 3.
-#[unsafe(no_mangle)]
-pub extern "C" fn claybobbin_first(a: usize, n: usize, out: &mut [u16]) -> u64
+pub fn claybobbin_first(a: usize, n: usize, out: &mut [u16]) -> u64
     ensures { Packs (λ s. Starts a n out.old s out.new) result }
 {
     let r = corridor::first(a, n, out);
@@ -119,8 +112,7 @@ pub extern "C" fn claybobbin_first(a: usize, n: usize, out: &mut [u16]) -> u64
 }
 
 // Replaces the array by the next. Numbers 0, 1, 2, 5, 6, 7 and 9.
-#[unsafe(no_mangle)]
-pub extern "C" fn claybobbin_next(a: usize, e: &mut [u16]) -> u64
+pub fn claybobbin_next(a: usize, e: &mut [u16]) -> u64
     ensures { Packs (λ s. Steps a e.old s e.new) result }
 {
     let r = corridor::next(a, e);
@@ -128,8 +120,7 @@ pub extern "C" fn claybobbin_next(a: usize, e: &mut [u16]) -> u64
 }
 
 // Writes the sheet of the row; the value is its length. Numbers 0, 1, 2, 4 and 8.
-#[unsafe(no_mangle)]
-pub extern "C" fn claybobbin_sheet(a: usize, row: &[u8], buf: &mut [u8]) -> u64
+pub fn claybobbin_sheet(a: usize, row: &[u8], buf: &mut [u8]) -> u64
     ensures { (result, buf.new) ≡ packed_both (sheet_outcome a row.now buf.old) }
 {
     let r = corridor::sheet(a, row, buf);
@@ -137,8 +128,7 @@ pub extern "C" fn claybobbin_sheet(a: usize, row: &[u8], buf: &mut [u8]) -> u64
 }
 
 // Answers a guess at the hidden row. Numbers 0, 1, 2, 3, 4 and 10.
-#[unsafe(no_mangle)]
-pub extern "C" fn claybobbin_guess(a: usize, hidden: &[u8], guess: &[u8]) -> u64
+pub fn claybobbin_guess(a: usize, hidden: &[u8], guess: &[u8]) -> u64
     ensures { result ≡ packing (guess_outcome a hidden.now guess.now) 0 }
 {
     let r = corridor::guess(a, hidden, guess);
@@ -146,8 +136,7 @@ pub extern "C" fn claybobbin_guess(a: usize, hidden: &[u8], guess: &[u8]) -> u64
 }
 
 // The value is the length of the closing strip, which is the end of the row.
-#[unsafe(no_mangle)]
-pub extern "C" fn claybobbin_closing(row: &[u8]) -> u64
+pub fn claybobbin_closing(row: &[u8]) -> u64
     ensures { result ≡ packing (done, 0) (closed row.now) }
 {
     let strip = corridor::closing(row);
@@ -155,8 +144,7 @@ pub extern "C" fn claybobbin_closing(row: &[u8]) -> u64
 }
 
 // The value is the length of the joining strip, which is the start of the right row.
-#[unsafe(no_mangle)]
-pub extern "C" fn claybobbin_joining(left: &[u8], right: &[u8]) -> u64
+pub fn claybobbin_joining(left: &[u8], right: &[u8]) -> u64
     ensures { result ≡ packing (done, 0) (joint left.now right.now) }
 {
     let strip = corridor::joining(left, right);

@@ -12,6 +12,9 @@ echo-requires c = (search (rules, seek_place), search rules)
 pub returns-then-repeats : goal.returns-then-repeats
 returns-then-repeats c = search (rules, seek_again)
 
+pub returns-then-number_of-eq-DONE : goal.returns-then-number_of-eq-DONE
+returns-then-number_of-eq-DONE c = search rules
+
 pub least_open-requires : goal.least_open-requires
 least_open-requires c = (search rules, search (rules, seek_asks))
 
