@@ -1,10 +1,10 @@
 #!/bin/sh
-# build.sh NAME..: builds host/NAME.c or host/NAME.rs with the archive of crates/host into target/host/NAME, a static x86-64 program. The name `example` is
+# build.sh NAME..: proves crates/host_c, leaves its archive in target/staticlib/libhost.a, and builds host/NAME.c or host/NAME.rs with it into target/host/NAME, a static x86-64 program. The name `example` is
 # the C example of docs/HOST.md, taken out of the document. The program is NAME.x86-64 there, and NAME is a line that has ./claybobbin run it on this machine.
 set -eu
 cd "$(dirname "$0")/.."
 out=target/host
-archive=crates/host/out/libhost.a
+archive=target/staticlib/libhost.a
 mkdir -p "$out"
 
 case $(uname -m) in
@@ -31,7 +31,7 @@ c_program() { # FILE PROGRAM: the header is plain C89, and C++ takes it
     "$cc" -std=c89 -O2 -static -Iinclude -o "$2" "$1" "$archive"
 }
 
-prove_archive() { (cd crates/host && rt lib); }
+prove_archive() { (cd crates/host_c && rt lib) && mkdir -p "${archive%/*}" && cp crates/host_c/out/libhost_c.a "$archive"; }
 
 quietly prove_archive
 
