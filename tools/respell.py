@@ -4,11 +4,10 @@
 usage: python3 tools/respell.py [--list]        at the top of the repository; --list prints the names alone
 
 A name is taken from the crates' specs/*.antt and proofs/*.antt, where it is declared. It is turned there, in the folders of the functions' proofs, in
-clauses, in edits that must be refused and in the pages, everywhere but where a file has brought in the same name from elsewhere. Two names that would fall
-together stop the script before anything is written. A file that has the new spelling stays as it is.
+clauses, in edits that must be refused and in the pages, everywhere but where a file has brought in the same name from elsewhere. Two names of
+one file that would fall together stop the script before anything is written. A file that has the new spelling stays as it is.
 """
 import re
-import subprocess
 import sys
 from pathlib import Path
 
@@ -49,7 +48,7 @@ def aliases():
         if path.suffix in (".rt", ".antt") and "out" not in path.parts:
             for m in USED.finditer(path.read_text()):
                 if m.group(2) in OURS:
-                    found |= {w for a in re.finditer(r"\bas ([^\s,}]+)", m.group(3)) for w in [a.group(1)]}
+                    found |= set(re.findall(r"\bas ([^\s,}]+)", m.group(3)))
     return found
 
 
