@@ -5,14 +5,15 @@ use mathlib.Core.List.{List, [], ◌∷◌}
 use Prim.Native.Nat.{ℕ, zero, suc, ◌+◌, ◌-◌, ◌≤◌, ◌<◌}
 use native.Mathlib.Omega.{arith}
 use lib.Dec.{ltb, leb, eqb}
-use lib.ListN.{length}
-use borrow.Author.Tests.{eq-eqb, ne_eqb, le-leb, lt-leb, lt-ltb, le-ltb, leb-true, eqb-true, not-true, not-false}
+use lib.ListN.{length, get_or}
+use borrow.Author.Tests.{eq-eqb, ne_eqb, le-leb, lt-leb, lt-ltb, le-ltb, leb-true, eqb-true, ltb-true, ltb-false, not-true, not-false}
 use Rattle.words.specs.Lists.{both, first_of, run, places, at}
 use Rattle.words.specs.Rows.{card}
 use Rattle.words.specs.Outcomes.{kept, given, answered, counted}
-use Rattle.words.specs.Numbers.{DONE, LONG, MISMATCH, CARD, letters, first_letter, letter, over, foreign, outside, differs, differing, named, unless, alphabet, long, matching, cards, refusal, sizes, lent, paired, limit}
+use Rattle.words.specs.Numbers.{DONE, LONG, MISMATCH, CARD, DIFFERS, letters, first_letter, letter, over, foreign, outside, differs, differing, named, unless, alphabet, long, matching, cards, refusal, sizes, lent, paired, limit}
 use Rattle.words.proofs.Lists.{which, either, same?, not_both, every_in, every_out, both_out, both_true, both_left, both_right}
-use Rattle.words.proofs.Places.{places_in, places_out, first_places, first_start, first_here, first_more, first_none}
+use Rattle.words.proofs.Rows.{card_index}
+use Rattle.words.proofs.Places.{at_index, places_in, places_out, first_places, first_start, first_here, first_more, first_none}
 
 pub unless_good : (t : Bool) (n : ℕ) → t ≡ true → (DONE, 0) ≡ unless t n
 unfolding unless
@@ -120,27 +121,32 @@ pub letter_behind : (A c : ℕ) → first_letter ≤ c → A ≤ c - first_lette
 unfolding letter
 letter_behind A c h l = sym (both_right (leb first_letter c) (ltb c (first_letter + A)) (le-ltb c (first_letter + A) (omega arith)))
 
+pub letter_test : (A c k : ℕ) → first_letter ≤ c → k ≡ c - first_letter → ltb k A ≡ letter A c
+letter_test A c k h e = either (which (ltb k A))
+    (λ t. t ∙ letter_in A c h (omega (arith, ltb-true k A t)))
+    (λ f. f ∙ letter_behind A c h (omega (arith, ltb-false k A f)))
+
 -- the walk over the cards of a row
 pub outside_start : (A : ℕ) (x : List ℕ) → outside A x ≡ first_of (foreign A x) (run (0 + 1) (length x - 0))
 unfolding outside
 outside_start A x = first_start (foreign A x) (length x)
 
-module _ (A : ℕ) (x : List ℕ) (i : ℕ) (left : outside A x ≡ first_of (foreign A x) (run (i + 1) (length x - i))) where
-  pub outside_more : (c : ℕ) (t : Bool) → c ≡ card x (i + 1) → t ≡ letter A c → t ≡ true
-      → outside A x ≡ first_of (foreign A x) (run (i + 1 + 1) (length x - (i + 1)))
+module _ (A : ℕ) (x : List ℕ) (i : ℕ) (left : outside A x ≡ first_of (foreign A x) (run (i + 1) (length x - i))) (t : Bool) (one : t ≡ letter A (get_or x i 0)) where
+  here : t ≡ letter A (card x (i + 1))
+  here = let e : i ≡ i + 1 - 1 = omega arith in one ∙ ap (λ (k : ℕ). letter A (get_or x k 0)) e ∙ ap (letter A) (card_index x (i + 1) (omega arith))
+
+  pub outside_more : t ≡ true → outside A x ≡ first_of (foreign A x) (run (i + 1 + 1) (length x - (i + 1)))
   unfolding foreign
-  outside_more c t e l p = first_more (foreign A x) (outside A x) i (length x) left (ap not (ap (letter A) (sym e) ∙ sym l ∙ p))
+  outside_more p = first_more (foreign A x) (outside A x) i (length x) left (ap not (sym here ∙ p))
 
-  pub outside_here : (c : ℕ) (t : Bool) → i < length x → c ≡ card x (i + 1) → t ≡ letter A c → t ≡ false → i + 1 ≡ outside A x
-  unfolding foreign
-  outside_here c t h e l p = first_here (foreign A x) (outside A x) i (length x) left h (ap not (ap (letter A) (sym e) ∙ sym l ∙ p))
+  pub cards_here : i < length x → t ≡ false → (CARD, i + 1) ≡ cards A x
+  unfolding foreign cards
+  cards_here h p = named_place CARD (i + 1) (λ z. omega arith)
+      ∙ ap (named CARD) (first_here (foreign A x) (outside A x) i (length x) left h (ap not (sym here ∙ p)))
 
-  pub outside_none : length x ≤ i → 0 ≡ outside A x
-  outside_none h = first_none (foreign A x) (outside A x) i (length x) left h
-
-pub cards_named : (A : ℕ) (x : List ℕ) (p : ℕ) (r : ℕ × ℕ) → p ≡ outside A x → r ≡ named CARD p → r ≡ cards A x
+pub cards_none : (A : ℕ) (x : List ℕ) (i : ℕ) → outside A x ≡ first_of (foreign A x) (run (i + 1) (length x - i)) → length x ≤ i → (DONE, 0) ≡ cards A x
 unfolding cards
-cards_named A x p r e h = h ∙ ap (named CARD) e
+cards_none A x i left h = named_none CARD (outside A x) (sym (first_none (foreign A x) (outside A x) i (length x) left h))
 
 -- every number but 0 leaves a buffer as it came; with 0 it holds the new contents
 pub kept_old : (r : ℕ × ℕ) (new old : List ℕ) → (r.0 ≡ DONE → ⊥) → kept r new old ≡ old
@@ -175,17 +181,19 @@ unfolding differing
 differing_start e f = first_start (differs e f) (length e)
 
 module _ (e f : List ℕ) (i : ℕ) (left : differing e f ≡ first_of (differs e f) (run (i + 1) (length e - i))) where
-  pub differing_none : length e ≤ i → 0 ≡ differing e f
-  differing_none h = first_none (differs e f) (differing e f) i (length e) left h
+  same : (l : List ℕ) → get_or l i 0 ≡ at l (i + 1)
+  same l = let e : i ≡ i + 1 - 1 = omega arith in at_index l (i + 1) (get_or l i 0) (omega arith) (ap (λ (k : ℕ). get_or l k 0) e)
 
-  module _ (a b : ℕ) (here : a ≡ at e (i + 1)) (there : b ≡ at f (i + 1)) where
-    pub differing_here : i < length e → (a ≡ b → ⊥) → i + 1 ≡ differing e f
-    unfolding differs
-    differing_here h d = first_here (differs e f) (differing e f) i (length e) left h (ap not (ne_eqb (at e (i + 1)) (at f (i + 1)) (λ z. d (here ∙ z ∙ sym there))))
+  pub differing_none : length e ≤ i → differing e f ≡ 0
+  differing_none h = sym (first_none (differs e f) (differing e f) i (length e) left h)
 
-    pub differing_more : a ≡ b → differing e f ≡ first_of (differs e f) (run (i + 1 + 1) (length e - (i + 1)))
-    unfolding differs
-    differing_more z = first_more (differs e f) (differing e f) i (length e) left (ap not (eq-eqb (at e (i + 1)) (at f (i + 1)) (sym here ∙ z ∙ there)))
+  pub differing_here : i < length e → (get_or e i 0 ≡ get_or f i 0 → ⊥) → i + 1 ≡ differing e f
+  unfolding differs
+  differing_here h d = first_here (differs e f) (differing e f) i (length e) left h (ap not (ne_eqb (at e (i + 1)) (at f (i + 1)) (λ z. d (same e ∙ z ∙ sym (same f)))))
+
+  pub differing_more : get_or e i 0 ≡ get_or f i 0 → differing e f ≡ first_of (differs e f) (run (i + 1 + 1) (length e - (i + 1)))
+  unfolding differs
+  differing_more z = first_more (differs e f) (differing e f) i (length e) left (ap not (eq-eqb (at e (i + 1)) (at f (i + 1)) (sym (same e) ∙ z ∙ same f)))
 
 -- 4 is given exactly where a card is outside the alphabet, at its first place
 pub over_cards : (A : ℕ) (x : List ℕ) → over A x ≡ true → cards A x ≡ (DONE, 0)

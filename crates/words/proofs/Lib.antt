@@ -1,6 +1,7 @@
 pub mod Corridors
 pub mod Lists
 pub mod Checks
+pub mod Refusals
 pub mod Bounds
 pub mod Exactly
 pub mod Rows

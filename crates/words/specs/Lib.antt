@@ -1,6 +1,7 @@
 pub mod Lists
 pub mod Rows
 pub mod Numbers
+pub mod Refusals
 pub mod Stand
 pub mod Least
 pub mod Listing
