@@ -1,19 +1,17 @@
 -- The window walk: one card more or no more, the mirror, and the loop that writes a reach table in the code's own terms. Assumes nothing.
 use mathlib.Core.Path.{◌≡◌, sym, ap, subst, ◌∙◌}
-use mathlib.Core.Bool.{Bool, true, false}
 use mathlib.Core.List.{List}
-use Prim.Native.Nat.{ℕ, suc, ◌+◌, ◌-◌, ◌≤◌, ◌<◌}
+use Prim.Native.Nat.{ℕ, suc, min, ◌+◌, ◌-◌, ◌≤◌, ◌<◌}
 use native.Mathlib.Omega.{arith}
 use native.Mathlib.Numerals.{add-one}
-use lib.Dec.{eqb}
 use lib.ListN.{length}
-use borrow.Author.Tests.{eqb-true, eqb-false}
+use Rattle.std.proofs.Common.{Option, Some}
 use Rattle.words.specs.Lists.{at, placed}
 use Rattle.words.specs.Rows.{card, reach, reaches}
 use Rattle.words.proofs.Lists.{either, same?}
 use Rattle.words.proofs.Places.{each_only, placed_long, placed_same, placed_other}
 use Rattle.rows.proofs.Reaching.{reach_low, reach_agree, reach_most, reach_whole}
-use Rattle.reaches.specs.Reach.{Reaching}
+use Rattle.reaches.specs.Reach.{Windowed, Reaching}
 
 -- one card more, or no more, at the place with d cards before it in a row of n
 module _ (X : ℕ → ℕ) (n d : ℕ) where
@@ -29,36 +27,28 @@ pub reach_mirror : (X : ℕ → ℕ) (n l i k : ℕ) → l < i → k ≤ reach X
 reach_mirror X n l i k h a b g = reach_most X n i k (omega (arith, reach_low X n l))
     (λ j p q. reach_agree X n (i - l) j p (omega arith) ∙ reach_agree X n l (i - l + j) (omega arith) (omega arith) ∙ ap X (omega arith))
 
--- a test of two cards that were read
-pub compared : (x : List ℕ) (a b i j : ℕ) → a ≡ card x i → b ≡ card x j → eqb a b ≡ eqb (card x i) (card x j)
-compared x a b i j p q = rw p (rw q)
-
 -- stretching a reach behind the first i cards, k of which are known to agree
 module _ (x : List ℕ) (i k : ℕ) (known : k ≤ reach (card x) (length x) (i + 1)) where
   stretch_known : k ≤ reach (card x) (length x) (suc i)
   stretch_known = rw add-one at known
 
-  pub stretch_start : i < length x → i + k ≤ length x
-  stretch_start l = omega (arith, stretch_known, reach_low (card x) (length x) i)
+  module _ (a b : ℕ) (at-a : a ≡ card x (k + 1)) (at-b : b ≡ card x (i + k + 1)) where
+    pub stretch_stop : (a ≡ b → ⊥) → k ≡ reach (card x) (length x) (i + 1)
+    stretch_stop d = rw add-one (reach_stop (card x) (length x) i k stretch_known
+        (λ e. d (at-a ∙ ap (card x) (add-one k) ∙ e ∙ ap (card x) (omega arith) ∙ sym at-b)))
 
-  module _ (t : Bool) (compares : t ≡ eqb (card x (k + 1)) (card x (i + k + 1))) where
-    pub stretch_stop : t ≡ false → k ≡ reach (card x) (length x) (i + 1)
-    stretch_stop f = rw add-one (reach_stop (card x) (length x) i k stretch_known
-        (λ e. eqb-false (card x (k + 1)) (card x (i + k + 1)) (sym compares ∙ f) (ap (card x) (add-one k) ∙ e ∙ ap (card x) (omega arith))))
+    pub stretch_more : k < length x - i → a ≡ b → k + 1 ≤ reach (card x) (length x) (i + 1)
+    stretch_more l e = rw (add-one k, add-one i) (reach_more (card x) (length x) i k stretch_known (omega arith)
+        (ap (card x) (sym (add-one k)) ∙ sym at-a ∙ e ∙ at-b ∙ ap (card x) (omega arith)))
 
-    pub stretch_more : i + k < length x → t ≡ true → k + 1 ≤ reach (card x) (length x) (i + 1)
-    stretch_more l e = rw (add-one k, add-one i) (reach_more (card x) (length x) i k stretch_known l
-        (ap (card x) (sym (add-one k)) ∙ eqb-true (card x (k + 1)) (card x (i + k + 1)) (sym compares ∙ e) ∙ ap (card x) (omega arith)))
-
-  pub stretch_end : length x ≤ i + k → k ≡ reach (card x) (length x) (i + 1)
+  pub stretch_end : length x - i ≤ k → length x - i ≡ reach (card x) (length x) (i + 1)
   stretch_end l = rw add-one (omega (arith, stretch_known, reach_low (card x) (length x) i))
 
 -- the loop that writes a reach table
-pub reach_start : (x t u : List ℕ) → length t ≡ length x → (length x ≡ 0 → ⊥) → u ≡ placed t 1 (length x) → Reaching x u 0 1
+pub reach_start : (x t u : List ℕ) → length t ≡ length x → (length x ≡ 0 → ⊥) → u ≡ placed t 1 (length x) → Reaching x u 1
 reach_start x t u l d q =
     let w = ap length q ∙ placed_long t 1 (length x) in
     record {
-      below = omega arith;
       within = omega arith;
       whole = omega arith;
       right = λ k h.
@@ -67,19 +57,20 @@ reach_start x t u l d q =
           (ap (λ (m : List ℕ). at m 1) q ∙ placed_same t 1 (length x) (omega arith) (omega arith) ∙ sym (reach_whole (card x) (length x)));
     }
 
-module _ {x t : List ℕ} {l i : ℕ} (reaching : Reaching x t l i) where
+module _ {x t : List ℕ} {i : ℕ} (reaching : Reaching x t i) where
   -- what the window and the mirror place tell
-  pub reach_mirrored : (a b r : ℕ) → i < length x → a ≡ at t (l + 1) → b ≡ at t (i - l + 1) → (l ≡ 0 → ⊥) → r ≤ b → r ≤ l + a - i
+  pub reach_mirrored : (w : Option ℕ) (l a b r : ℕ) → Windowed w i → w ≡ Some l → i < length x → a ≡ at t (l + 1) → b ≡ at t (i - l + 1) → r ≡ min b (l + a - i)
       → r ≤ reach (card x) (length x) (i + 1)
-  reach_mirrored a b r g p q z u v = rw add-one (reach_mirror (card x) (length x) l i r reaching.below
-      (omega (arith, q, ap (at t) (add-one (i - l)), reaching.right (i - l) (omega (arith, reaching.below))))
-      (omega (arith, p, ap (at t) (add-one l), reaching.right l reaching.below)) g)
+  reach_mirrored w l a b r kept is g p q e =
+      let (s, m) = subst (λ (v : Option ℕ). Windowed v i) is kept in
+      rw add-one (reach_mirror (card x) (length x) l i r m
+      (omega (arith, q, ap (at t) (add-one (i - l)), reaching.right (i - l) (omega arith)))
+      (omega (arith, p, ap (at t) (add-one l), reaching.right l m)) g)
 
-  pub reach_next : (k m : ℕ) (u : List ℕ) → i < length x → k ≡ reach (card x) (length x) (i + 1) → u ≡ placed t (i + 1) k → m < i + 1 → Reaching x u m (i + 1)
-  reach_next k m u h e q s =
+  pub reach_next : (k : ℕ) (u : List ℕ) → i < length x → k ≡ reach (card x) (length x) (i + 1) → u ≡ placed t (i + 1) k → Reaching x u (i + 1)
+  reach_next k u h e q =
       let w = ap length q ∙ placed_long t (i + 1) k in
       record {
-        below = s;
         within = omega arith;
         whole = omega (arith, reaching.whole);
         right = λ d g. ap (λ (v : List ℕ). at v (suc d)) q ∙ entry d g;

@@ -1,13 +1,14 @@
 -- The walks and loops in the code's own terms: a lemma for each way out. Assumes nothing.
 use mathlib.Core.Path.{◌≡◌, refl, sym, ap, subst, ◌∙◌}
 use mathlib.Core.List.{List}
-use Prim.Native.Nat.{ℕ, zero, suc, ◌+◌, ◌-◌, ◌≤◌, ◌<◌}
+use Prim.Native.Nat.{ℕ, zero, suc, max, ◌+◌, ◌-◌, ◌≤◌, ◌<◌}
 use native.Mathlib.Omega.{arith}
 use native.Mathlib.Numerals.{add-one}
-use lib.ListN.{length, take, drop, length-drop}
+use lib.ListN.{length, get_or, take, drop, length-drop}
 use lib.Seq.{length-take-le}
 use borrow.Author.Tests.{eq-eqb, ne_eqb}
 use Rattle.words.specs.Lists.{at, placed}
+use Rattle.words.specs.Numbers.{limit}
 use Rattle.words.specs.Rows.{card, Small, echo, echoes, looks_from, looks_at, looks_to, looks}
 use Rattle.words.specs.Strips.{part, overlap}
 use Rattle.words.proofs.Lists.{either, same?}
@@ -111,9 +112,6 @@ fill_start x e f n d q =
         subst (λ (m : ℕ). at f m ≡ echo (card x) m) z (ap (λ (l : List ℕ). at l 1) q ∙ placed_same e 1 0 (omega arith) (omega arith) ∙ echo_one (card x))
 
 module _ {x e : List ℕ} {b i : ℕ} (filling : Filling x e b i) where
-  pub fill_known : Known (card x) e b
-  fill_known = known_less b filling.known filling.below
-
   module _ (c r : ℕ) (at-card : c ≡ card x (i + 1)) (grows : r ≡ grown (card x) b c) where
     fill_next : r ≡ echo (card x) (i + 1)
     fill_next = grows ∙ ap (grown (card x) b) at-card ∙ ap (λ (m : ℕ). grown (card x) m (card x (i + 1))) filling.last
@@ -144,9 +142,9 @@ unfolding echoes
 fill_none x e z n = each_only (echo (card x)) (length x) e n (λ j l. absurd (omega arith))
 
 -- the loop that adds up the looks
-pub add_start : (x : List ℕ) → (length x ≡ 0 → ⊥) → Adding x 0 1
+pub add_start : (x : List ℕ) → Adding x 0 1
 unfolding looks_to looks_at
-add_start x d = record { some = omega arith; within = omega arith; low = omega arith; sum = omega arith }
+add_start x = record { some = omega arith; within = omega arith; low = omega arith; sum = omega arith }
 
 module _ {x : List ℕ} {k i : ℕ} (adding : Adding x k i) (e : List ℕ) (whole : e ≡ echoes x) (inside : i < length x) where
   pub add_table : i ≤ length e
@@ -184,12 +182,15 @@ module _ {x : List ℕ} {k i : ℕ} (adding : Adding x k i) (e : List ℕ) (whol
         ))
 
 pub add_done : {x : List ℕ} {k i : ℕ} → Adding x k i → length x ≤ i → k ≡ looks x
-unfolding looks
-add_done {x} {k} {i} a h = let z : i ≡ length x = omega (arith, a.within) in a.sum ∙ ap (looks_to (card x) (echo (card x))) z
+unfolding looks looks_to looks_at
+add_done {x} {k} {i} a h = go (length x) a.within h
+  where
+    go : (n : ℕ) → i ≤ max 1 n → n ≤ i → k ≡ looks_to (card x) (echo (card x)) n
+    go zero l h = let z : i ≡ 1 = omega (arith, a.some) in a.sum ∙ ap (looks_to (card x) (echo (card x))) z
+    go (suc n) l h = let z : i ≡ suc n = omega arith in a.sum ∙ ap (looks_to (card x) (echo (card x))) z
 
-pub add_none : (x : List ℕ) → length x ≡ 0 → 0 ≡ looks x
-unfolding looks looks_to
-add_none x z = sym (ap (looks_to (card x) (echo (card x))) z)
+pub add_low : {x : List ℕ} {k i : ℕ} → Adding x k i → length x ≤ limit → k ≤ 8190
+add_low a h = omega (arith, a.low, a.within)
 
 pub last_is : (x e : List ℕ) (r : ℕ) → e ≡ echoes x → 0 < length x → r ≡ at e (length x) → r ≡ echo (card x) (length x)
 last_is x e r q p z = z ∙ known_at (echoes_known x e q) p
@@ -238,14 +239,12 @@ module _ {x y e : List ℕ} {b i : ℕ} (joins : Overlapping x y e b i) (r : ℕ
   pub join_known : Known (card y) e r
   join_known = known_less r (echoes_known y e joins.table) join_inside
 
-  pub join_more : (c s : ℕ) → i < length x → c ≡ card x (i + 1) → s ≡ grown (card y) r c → Overlapping x y e s (i + 1)
-  join_more c s h z g =
-      let q : s ≡ overlap (card x) (i + 1) (card y) (length y) = g ∙ ap (grown (card y) r) (z ∙ ap (card x) (add-one i)) ∙ sym resumes.1 ∙ rw add-one in
+  pub join_more : (s : ℕ) → i < length x → s ≡ grown (card y) r (get_or x i 0) → Overlapping x y e s (i + 1)
+  unfolding card at
+  join_more s h g =
+      let q : s ≡ overlap (card x) (i + 1) (card y) (length y) = g ∙ sym resumes.1 ∙ rw add-one in
       let (k, f) = overlap_closes (card x) (i + 1) (card y) (length y) in
       record { within = omega arith; some = joins.some; whole = joins.whole; table = joins.table; fits = omega arith; last = q }
-
-pub join_done : {x y e : List ℕ} {b i : ℕ} → Overlapping x y e b i → length x ≤ i → b ≡ overlap (card x) (length x) (card y) (length y)
-join_done {x} {y} {e} {b} {i} j h = let z : i ≡ length x = omega (arith, j.within) in j.last ∙ ap (λ (m : ℕ). overlap (card x) m (card y) (length y)) z
 
 pub join_fits : (x y : List ℕ) (r : ℕ) → r ≡ overlap (card x) (length x) (card y) (length y) → r ≤ length y
 join_fits x y r q = let (c, f) = overlap_closes (card x) (length x) (card y) (length y) in omega arith

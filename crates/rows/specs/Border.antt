@@ -1,5 +1,5 @@
 -- Borders as relations, and what the walk along a chain finds. Assumes nothing: these are definitions.
-use Rattle.std.specs.Prelude.{◌≡◌, Bool, true, cond, List, ℕ, zero, suc, ◌+◌, ◌-◌, ◌*◌, ◌≤◌, ◌<◌, eqb, length}
+use Rattle.std.specs.Prelude.{◌≡◌, Bool, true, cond, List, ℕ, zero, suc, ◌+◌, ◌-◌, ◌*◌, ◌≤◌, ◌<◌, max, eqb, length}
 use Rattle.words.specs.Lists.{both, greatest, at}
 use Rattle.words.specs.Rows.{card, Alike, closes, echo, echoes, looks_from, looks_to}
 use Rattle.words.specs.Strips.{overlap}
@@ -42,10 +42,10 @@ pub record Filling (x e : List ℕ) (b i : ℕ) : Type 0 where
   pub last : b ≡ echo (card x) i
   pub known : Known (card x) e i
 
--- k is the looks of the first i places of x
+-- k is the looks of the first i places of x; place 1 has none, also where x is empty
 pub record Adding (x : List ℕ) (k i : ℕ) : Type 0 where
   pub some : 0 < i
-  pub within : i ≤ length x
+  pub within : i ≤ max 1 (length x)
   pub low : k ≤ 2 * i - 2
   pub sum : k ≡ looks_to (card x) (echo (card x)) i
 

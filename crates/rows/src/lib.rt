@@ -1,5 +1,5 @@
-// From cards: echoes, looks and overlaps. Here a row is read only by `card_at`, a table of echoes only by `echo_at`, and written only by `put_echo`; a part of
-// a row is cut only by `part`.
+// From cards: echoes, looks and overlaps. Here a row is read by place, with `card_at`, or from its first card to its last; a table of echoes is read only by
+// `echo_at`, and written only by `put_echo`; a part of a row is cut only by `part`.
 #![tactic(auto)]
 
 ghost use Rattle.std.specs.Prelude.{◌≡◌, ◌+◌, ◌≤◌, ◌<◌, length};
@@ -22,7 +22,7 @@ pub fn echo_at(e: &[u16], i: usize) -> usize
     requires { (0 < i) × (i ≤ length e.now) }
     ensures { (result ≡ at e.now i) × (result < 65536) }
 {
-    words::wide(e[i - 1])
+    usize::from(e[i - 1])
 }
 
 // Writes the echo k at place i.
@@ -30,10 +30,12 @@ pub fn put_echo(e: &mut [u16], i: usize, k: usize)
     requires { (0 < i) × (i ≤ length e.old) × (k < 65536) }
     ensures { (e.new ≡ placed e.old i k) × (length e.new ≡ length e.old) }
 {
+    // Stays: u16::try_from is no plainer, since k fits, and its error would have nowhere to go.
     e[i - 1] = k as u16;
 }
 
 // The walk along the chain from b on: the longest that closes the first b cards of the row and grows by the card c, grown by it.
+// Stays: a row and its echoes stay two arguments, since `echoes` writes the table between two walks, and would make a struct of both anew for each.
 fn extend(row: &[u8], e: &[u16], b: usize, c: u8) -> usize
     requires { (b < length row.now) × Known (card row.now) e.now b }
     ensures { (result ≡ grown (card row.now) b c) × (result ≤ b + 1) }
@@ -47,30 +49,20 @@ fn extend(row: &[u8], e: &[u16], b: usize, c: u8) -> usize
     }
 }
 
-// Writes the echo of place i + 1, where those before it stand and b is the last of them.
-fn next_echo(row: &[u8], out: &mut [u16], b: usize, i: usize) -> usize
-    requires { (i < length row.now) × (length row.now ≤ limit) × Filling row.now out.old b i }
-    ensures { Filling row.now out.new result (i + 1) }
-{
-    let k = extend(row, out, b, card_at(row, i + 1));
-    put_echo(out, i + 1, k);
-    k
-}
-
 // Writes the echoes of the row.
+// Stays: a row and the table lent for it come as two arguments, here and below, since callers hand them in as such.
 pub fn echoes(row: &[u8], out: &mut [u16])
     requires { (length out.old ≡ length row.now) × (length row.now ≤ limit) }
     ensures { out.new ≡ echoes_of row.now }
 {
-    if row.len() == 0 {
+    if row.is_empty() {
         return;
     }
     put_echo(out, 1, 0);
     let mut b = 0;
-    let mut i = 1;
-    while i < row.len() {
-        b = next_echo(row, out, b, i);
-        i += 1;
+    for i in 1..row.len() {
+        b = extend(row, out, b, card_at(row, i + 1));
+        put_echo(out, i + 1, b);
     }
 }
 
@@ -94,15 +86,9 @@ pub fn looks(row: &[u8], e: &[u16]) -> usize
     requires { (e.now ≡ echoes_of row.now) × (length row.now ≤ limit) }
     ensures { (result ≡ looks_of row.now) × (result ≤ 8190) }
 {
-    if row.len() == 0 {
-        return 0;
-    }
     let mut k = 0;
-    let mut i = 1;
-    while i < row.len() {
-        let b = echo_at(e, i);
-        k += looked(row, e, b, card_at(row, i + 1));
-        i += 1;
+    for i in 1..row.len() {
+        k += looked(row, e, echo_at(e, i), card_at(row, i + 1));
     }
     k
 }
@@ -130,10 +116,8 @@ fn overlapping(left: &[u8], right: &[u8], e: &[u16]) -> usize
     ensures { result ≡ overlap_of (card left.now) (length left.now) (card right.now) (length right.now) }
 {
     let mut b = 0;
-    let mut i = 0;
-    while i < left.len() {
-        b = extend(right, e, resume(e, b), card_at(left, i + 1));
-        i += 1;
+    for &c in left {
+        b = extend(right, e, resume(e, b), c);
     }
     b
 }
@@ -161,6 +145,5 @@ pub fn part(row: &[u8], d: usize, k: usize) -> &[u8]
     requires { d + k ≤ length row.now }
     ensures { (result.now, result.ref_ptr) ≡ part_of row.now row.entry.ref_ptr d k }
 {
-    let to = d + k;
-    &row[d..to]
+    &row[d..d + k]
 }

@@ -3,5 +3,5 @@ use Rattle.std.proofs.Common.{rules}
 use Rattle.reaches.proofs.Window.{reach_mirrored}
 use Rattle.reaches.proofs.mirrored.Goals as goal
 
-pub returns-else-end-i : goal.returns-else-end-i
-returns-else-end-i c = search (rules, reach_mirrored)
+pub returns : goal.returns
+returns c = search (rules, reach_mirrored)

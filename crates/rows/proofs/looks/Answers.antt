@@ -1,16 +1,13 @@
 -- `rows::looks`. Assumes nothing.
 use Rattle.std.proofs.Common.{rules}
-use Rattle.rows.proofs.Walks.{add_start, add_table, add_inside, add_known, add_more, add_done, add_none}
+use Rattle.rows.proofs.Walks.{add_start, add_table, add_inside, add_known, add_more, add_done, add_low}
 use Rattle.rows.proofs.looks.Goals as goal
-
-pub returns-then-row-eq0 : goal.returns-then-row-eq0
-returns-then-row-eq0 c = (search (rules, add_none), search rules)
 
 pub loop-i-init : goal.loop-i-init
 loop-i-init c = search (rules, add_start)
 
-pub echo_at-b-requires : goal.echo_at-b-requires
-echo_at-b-requires c = (search rules, search (rules, add_table))
+pub echo_at-requires : goal.echo_at-requires
+echo_at-requires c = (search rules, search (rules, add_table))
 
 pub looked-k-requires : goal.looked-k-requires
 looked-k-requires c = (search (rules, add_inside), search (rules, add_known))
@@ -19,4 +16,4 @@ pub loop-i-preserved : goal.loop-i-preserved
 loop-i-preserved c = search (rules, add_more)
 
 pub returns : goal.returns
-returns c = (search (rules, add_done), search rules)
+returns c = (search (rules, add_done), search (rules, add_low))
