@@ -3,8 +3,6 @@ use mathlib.Core.Path.{◌≡◌, sym, ap, ◌∙◌}
 use Prim.Native.Nat.{ℕ, zero, suc, ◌+◌, ◌-◌, ◌*◌, ◌/◌, ◌%◌, ◌≤◌, ◌<◌}
 use native.Mathlib.Omega.{arith}
 use native.Mathlib.Nat.{suc-mul, div-add-mod'}
-use mir.Syntax.{w64}
-use mir.Val.{Fits}
 use Rattle.words.specs.Numbers.{limit}
 use Rattle.words.specs.Stand.{weight}
 use Rattle.words.proofs.Lists.{either, same?}
@@ -54,9 +52,6 @@ module _ {E : ℕ → ℕ} {b : ℕ} (sound : Sound E (suc b)) (pos : 0 < b) whe
 
   slide_end : (m c : ℕ) → c ≡ E b → m + 2 * (b - c) + 16 * (b - c) ≤ c → m + 2 * (b - c) + (c - (m + 2 * (b - c))) % (b - c) ≤ b
   slide_end m c e l = omega (arith, next_low, div-add-mod' (c - (m + 2 * (b - c))) (b - c))
-
-  pub slide_fits : (m c : ℕ) → c ≡ E b → b < limit → m + 2 * (b - c) + 16 * (b - c) ≤ c → Fits w64 (m + 2 * (b - c) + (c - (m + 2 * (b - c))) % (b - c))
-  slide_fits m c e h l = record { fits = omega (arith, slide_end m c e l) }
 
   pub slide_in : (m c : ℕ) → c ≡ E b → b < limit → m + 2 * (b - c) + 16 * (b - c) ≤ c → m + 2 * (b - c) + (c - (m + 2 * (b - c))) % (b - c) ≤ limit
   slide_in m c e h l = omega (arith, slide_end m c e l)

@@ -1,4 +1,4 @@
--- An array in a table: its first n entries. Copying into the table and out of it, in the code's terms. Assumes nothing.
+-- An array in a table: its first n entries. Writing it there place by place, in the code's terms. Assumes nothing.
 use mathlib.Core.Path.{◌≡◌, sym, ap, ◌∙◌}
 use mathlib.Core.List.{List}
 use Prim.Native.Nat.{ℕ, suc, ◌+◌, ◌≤◌, ◌<◌}
@@ -7,7 +7,6 @@ use lib.ListN.{length, take}
 use lib.Seq.{ext_get_or, get_or-take, length-take-le, take_all}
 use Rattle.words.specs.Lists.{at, placed}
 use Rattle.words.specs.Rows.{Alike}
-use Rattle.words.specs.Numbers.{limit}
 use Rattle.words.proofs.Lists.{either, same?}
 use Rattle.words.proofs.Places.{placed_long, placed_same, placed_other}
 use Rattle.arrays.specs.Steps.{Holds}
@@ -35,15 +34,5 @@ module _ {e t : List ℕ} {k i : ℕ} (copying : Copied e t k i) where
       (λ j g. let r : j < n = omega (arith, length-take-le n t (omega (arith, copying.long))) in
       get_or-take n t j 0 r ∙ copying.right.same j (omega arith) ∙ sym (get_or-take n e j 0 r))
 
-  -- into a table, and out of one
-  pub held_more : (u : List ℕ) (v : ℕ) → i < length e → length e ≤ k → v ≡ at e (i + 1) → u ≡ placed t (i + 1) v → Copied e u k (i + 1)
-  held_more u v h l = copied_more u v (omega arith)
-
   pub held_done : length e ≤ i → length e ≤ k → Holds t e
   held_done h l = record { array = copied_part (length e) h l (omega arith) ∙ take_all (length e) e (omega arith) }
-
-  pub given_more : (u : List ℕ) (v : ℕ) → i < length t → v ≡ at e (i + 1) → u ≡ placed t (i + 1) v → Copied e u k (i + 1)
-  given_more u v h = copied_more u v (omega (arith, copying.long))
-
-  pub given_done : length t ≤ i → k ≤ limit → length e ≡ limit → t ≡ take k e
-  given_done h l m = sym (take_all k t (omega (arith, copying.long))) ∙ copied_part k (omega (arith, copying.long)) (omega arith) (omega arith)

@@ -1,11 +1,9 @@
 -- The step rules as the code's walks take them: `b + 1` for `suc b`, and a result r for what is shown. Assumes nothing.
 use mathlib.Core.Path.{◌≡◌, refl, sym, ap, ◌∙◌}
-use Prim.Native.Nat.{ℕ, zero, suc, ◌+◌, ◌^◌, ◌≤◌, ◌<◌}
+use Prim.Native.Nat.{ℕ, zero, suc, ◌+◌, ◌≤◌, ◌<◌}
 use native.Mathlib.Omega.{arith}
 use native.Mathlib.Numerals.{add-one}
 use lib.ListN.{length}
-use mir.Syntax.{w64}
-use mir.Val.{Fits}
 use Rattle.words.specs.Numbers.{DONE, IMPOSSIBLE, HIDDEN}
 use Rattle.words.specs.Stand.{opens, weight}
 use Rattle.arrays.specs.Steps.{Sound, Slides}
@@ -68,16 +66,3 @@ module _ (E : ℕ → ℕ) (b : ℕ) (sound : Sound E (suc b)) where
 
   pub few_used : (y r : ℕ) → y ≡ E b → (b ≡ 0 → ⊥) → r ≤ y + 1 → r ≤ b + 1
   few_used y r e d l = omega (arith, low d)
-
-  pub few_fits : (n y r : ℕ) → n < 2 ^ 64 → b < n → y ≡ E b → (b ≡ 0 → ⊥) → r ≤ y + 1 → Fits w64 (r + 1)
-  few_fits n y r g h e d l = record { fits = omega (arith, low d) }
-
-  -- the next of a walk that slides
-  pub slid_at : (t m y : ℕ) → b ≡ t → Slides E b m y → y < t
-  slid_at t m y z w = omega (arith, w.below)
-
-  pub slid_in : (n m y : ℕ) → b < n → Slides E b m y → y < n
-  slid_in n m y h w = omega (arith, w.below)
-
-  pub slid_sound : (m y : ℕ) → Slides E b m y → Sound E (suc y)
-  slid_sound m y w = sound_part (suc y) (omega (arith, w.below)) sound

@@ -1,42 +1,39 @@
-// From echoes: the number of a value behind an array that stands. An array is held in a table of 4,096 entries, of which its echoes are the first. A
-// reference to such a table travels in a register, where a slice goes through memory: so the walks, which call themselves on the next echo, run as loops and
-// need no stack.
+// From echoes: whether a value stands behind an array that stands, and why it does not. An array is held in a table of 4,096 entries, of which its echoes are
+// the first. The table is fixed memory, and the only copy of the echoes; the walks over it, which call themselves on the next echo, run as loops.
+// Stays: table and number of places are two parameters, in all crates that work on one: most functions need the table alone, and `judge`, `first` and `next`
+// get the two apart, as public functions did. What is another at each step is how many places stand.
 #![tactic(auto)]
 
 ghost use Rattle.std.specs.Prelude.{◌≡◌, suc, ◌+◌, ◌≤◌, ◌<◌, length, take};
 ghost use Rattle.words.specs.Lists.{at};
 ghost use Rattle.words.specs.Numbers.{limit};
+ghost use Rattle.words.specs.Refusals.{numbered};
 ghost use Rattle.words.specs.Stand.{opens, weight, weighed};
+ghost use Rattle.arrays.specs.Weights.{number_of_weight};
 ghost use Rattle.arrays.specs.Steps.{Passes, Sound, Slides, Holds, peak};
 
-use rows::{echo_at, put_echo};
-use words::{DONE, FULL, HIDDEN, IMPOSSIBLE};
+use rows::echo_at;
+use words::Reason;
 
 // Writes the echoes into the table.
+// Stays: the length, which the type of a table says too: what was promised here, and by `first` and `next` of listing, may not become less.
 pub fn hold(e: &[u16], t: &mut [u16; 4096])
-    requires { (length e.now ≤ limit) × (length t.old ≡ limit) }
+    requires { length e.now ≤ limit }
     ensures { Holds t.new e.now × (length t.new ≡ limit) }
 {
-    let mut i = 0;
-    while i < e.len() {
-        put_echo(t, i + 1, echo_at(e, i + 1));
-        i += 1;
-    }
+    t[..e.len()].copy_from_slice(e);
 }
 
 // Writes the table's first echoes into the slice.
 pub fn give(t: &[u16; 4096], e: &mut [u16])
-    requires { (length e.old ≤ limit) × (length t.now ≡ limit) }
+    requires { length e.old ≤ limit }
     ensures { e.new ≡ take (length e.old) t.now }
 {
-    let mut i = 0;
-    while i < e.len() {
-        put_echo(e, i + 1, echo(t, i + 1));
-        i += 1;
-    }
+    e.copy_from_slice(&t[..e.len()]);
 }
 
 // The echo at place i.
+// Stays: `rows::echo_at` at another type: a public function, whose callers show only that the place is up to the limit.
 pub fn echo(t: &[u16; 4096], i: usize) -> usize
     requires { (0 < i) × (i ≤ limit) }
     ensures { (result ≡ at t.now i) × (result < 65536) }
@@ -54,6 +51,8 @@ pub fn peak_at(t: &[u16; 4096], i: usize) -> usize
 
 // A value below b on its chain from which a walk to m goes on as from the echo of b. Where all echoes of a stretch lie at the same distance below their
 // places, the chain goes down by that distance, and a long way is taken at once: the distance of a place never falls, so its two ends tell of the stretch.
+// Stays: `Sound` is said of a table and a chain value here and in the walks of listing and rebuilding, and no struct has both: the chain value is another at each
+// step, so it would be built anew.
 fn slide(t: &[u16; 4096], b: usize, m: usize) -> usize
     requires { (0 < b) × (b < limit) × (m ≤ limit) × Sound (at t.now) (suc b) }
     ensures { Slides (at t.now) b m result }
@@ -71,19 +70,26 @@ fn slide(t: &[u16; 4096], b: usize, m: usize) -> usize
     c
 }
 
-// The number of the value m > 0 where the echo of the place before is b: a walk along the chain.
-fn weigh(t: &[u16; 4096], b: usize, m: usize) -> u8
+// What a value above 0 is behind an array that stands.
+// Stays: as a Result it comes back in two registers, and the walk is a true call for each step: counting 20 places over 26 letters took a fifth longer.
+#[derive(Clone, Copy)]
+enum Weight {
+    Stands,
+    Hidden,
+    Impossible,
+}
+
+// What the value m > 0 is where the echo of the place before is b: a walk along the chain.
+fn weigh(t: &[u16; 4096], b: usize, m: usize) -> Weight
     requires { (b < limit) × (0 < m) × Sound (at t.now) (suc b) }
-    ensures { result ≡ weight (at t.now) b m }
+    ensures { number_of_weight result ≡ weight (at t.now) b m }
 {
     if b + 1 == m {
-        DONE
-    } else if b + 1 < m {
-        IMPOSSIBLE
-    } else if b == 0 {
-        IMPOSSIBLE
+        Weight::Stands
+    } else if b + 1 < m || b == 0 {
+        Weight::Impossible
     } else if echo(t, b + 1) == m {
-        HIDDEN
+        Weight::Hidden
     } else {
         weigh(t, slide(t, b, m), m)
     }
@@ -105,18 +111,26 @@ pub fn open_count(t: &[u16; 4096], b: usize) -> usize
     }
 }
 
-// The number of the value m behind the first i places, which stand.
-pub fn number_of(a: usize, t: &[u16; 4096], i: usize, m: usize) -> u8
+// Whether the value m stands behind the first i places, which stand, or why it does not.
+pub fn number_of(a: usize, t: &[u16; 4096], i: usize, m: usize) -> Result<(), Reason>
     requires { (i ≤ limit) × Passes a (at t.now) i }
-    ensures { result ≡ weighed a (at t.now) i m }
+    ensures { numbered result ≡ weighed a (at t.now) i m }
 {
     if i == 0 {
-        if m == 0 { DONE } else { IMPOSSIBLE }
+        if m == 0 {
+            Ok(())
+        } else {
+            Err(Reason::Impossible)
+        }
     } else if 0 < m {
-        weigh(t, echo(t, i), m)
+        match weigh(t, echo(t, i), m) {
+            Weight::Stands => Ok(()),
+            Weight::Hidden => Err(Reason::Hidden),
+            Weight::Impossible => Err(Reason::Impossible),
+        }
     } else if a <= open_count(t, echo(t, i)) {
-        FULL
+        Err(Reason::Full)
     } else {
-        DONE
+        Ok(())
     }
 }

@@ -1,21 +1,21 @@
 -- The table of pairs that stood: whether a value stands is a matter of the greatest value there alone. Assumes nothing.
 use mathlib.Core.Path.{◌≡◌, refl, sym, ap, ◌∙◌}
-use mathlib.Core.Bool.{Bool, true, false, cond, not}
+use mathlib.Core.Bool.{Bool, true, cond}
 use mathlib.Core.List.{List}
-use Prim.Native.Nat.{ℕ, zero, suc, ◌+◌, ◌*◌, ◌≤◌, ◌<◌}
+use Prim.Native.Nat.{ℕ, zero, suc, ◌+◌, ◌*◌, ◌<◌}
 use native.Mathlib.Omega.{arith}
 use native.Mathlib.Numerals.{add-one}
 use lib.Dec.{ltb, eqb}
 use lib.ListN.{length, get_or, set, replicate, length-set, length-replicate, get_or-replicate}
 use lib.Seq.{get_or-set_other}
-use borrow.Author.Tests.{ltb-true, eqb-true, not-false}
+use borrow.Author.Tests.{eqb-true}
 use Rattle.words.specs.Lists.{both}
 use Rattle.words.specs.Numbers.{DONE, FULL}
 use Rattle.words.specs.Stand.{opens, weight, weighed}
-use Rattle.words.proofs.Lists.{either, same?, not_both, both_out}
-use Rattle.arrays.specs.Steps.{Passes, peak}
-use Rattle.judging.specs.Judging.{Low, Stood, Known, Skims}
-use Rattle.arrays.proofs.Rules.{passes_suc, passes_part, peak_some}
+use Rattle.words.proofs.Lists.{either, same?, both_out}
+use Rattle.arrays.specs.Steps.{peak}
+use Rattle.judging.specs.Judging.{Low, Stood, Known}
+use Rattle.arrays.proofs.Rules.{passes_suc, peak_some}
 
 weighed_peak : (A : ℕ) (E : ℕ → ℕ) (i j m : ℕ) → peak E i ≡ peak E j → weighed A E i m ≡ weighed A E j m
 unfolding peak weighed
@@ -41,23 +41,6 @@ stood_more {A} {E} {f} stood i p m w greatest g h e z = record { long = length-s
         (λ c. let a : q ≡ p = omega arith in let d : k ≡ m = omega arith in ap (weighed A E j) d ∙ weighed_peak A E j i m (y ∙ a ∙ greatest) ∙ sym e ∙ z)
         (λ d. stood.again q k b l (sym (get_or-set_other f (16 * p + m) (16 * q + k) 0 0 d) ∙ x) j y)
 
--- the echoes of some places, looked at together
-pub low_none : (E : ℕ → ℕ) (i : ℕ) → Low E i 0 true
-low_none E i = record { below = λ z j h. absurd (omega arith) }
-
-pub low_more : {E : ℕ → ℕ} {i k : ℕ} {s : Bool} → Low E i k s → (x : ℕ) → x ≡ E (i + k) → (r : Bool) → r ≡ both s (ltb x 15) → Low E i (k + 1) r
-low_more {E} {i} {k} {s} l x e r is = record {
-  below = λ z j h. let (a, b) = both_out s (ltb x 15) (sym is ∙ z) in either (same? j k)
-      (λ y. omega (arith, ap (λ (q : ℕ). E (i + q)) y, ltb-true x 15 b))
-      (λ d. l.below a j (omega arith));
-}
-
-pub low_all : {E : ℕ → ℕ} {i k : ℕ} {s : Bool} → Low E i k s → (c : ℕ) → c < k → Low E i (c + 1) s
-low_all l c h = record { below = λ z j b. l.below z j (omega arith) }
-
-pub low_is : {E : ℕ → ℕ} {i k : ℕ} {s : Bool} → Low E i k s → not s ≡ false → Low E i k true
-low_is {s = s} l z = record { below = λ y. l.below (not-false s z) }
-
 -- the pairs of some places, looked up together
 module _ {E : ℕ → ℕ} {i c k : ℕ} (low : Low E i (c + 1) true) (h : k < c) (x y : ℕ) (left : x ≡ E (i + k)) (right : y ≡ E (i + k + 1)) where
   known_low : (x < 15) × (y < 15)
@@ -75,23 +58,3 @@ module _ {E : ℕ → ℕ} {i c k : ℕ} (low : Low E i (c + 1) true) (h : k < c
         let e : i + (k + 1) ≡ suc (i + k) = omega arith in
         rw e (passes_suc (i + k) (known.pass a A stood p) (ap (weighed A E (i + k)) (ap E (sym (add-one (i + k))) ∙ sym right) ∙ w));
   }
-
--- going on by what is known
-module _ {E : ℕ → ℕ} {f : List ℕ} {i : ℕ} where
-  pub known_not : (k : ℕ) → Known E f i k false
-  known_not k = record { pass = λ z A s p. absurd (not_both z refl) }
-
-  pub known_none : Known E f i 0 true
-  known_none = record { pass = λ z A s p. let e : i + 0 ≡ i = omega arith in rw e p }
-
-  pub known_all : {k : ℕ} {s : Bool} → Known E f i k s → (c : ℕ) → c ≤ k → Known E f i c s
-  known_all known c h = record { pass = λ z A s p. passes_part (i + c) (omega arith) (known.pass z A s p) }
-
-  pub skims_none : (n : ℕ) → i ≤ n → Skims E f i n i
-  skims_none n h = record { from = omega arith; within = h; pass = λ A s p. p }
-
-  pub skims_more : {n r : ℕ} → Skims E f i n r → (c : ℕ) (b : Bool) → Known E f r c b → not b ≡ false → r + c ≤ n → Skims E f i n (r + c)
-  skims_more {n} {r} s c b k z h = record { from = omega (arith, s.from); within = h; pass = λ A d p. k.pass (not-false b z) A d (s.pass A d p) }
-
-pub passes_skims : {A : ℕ} {E : ℕ → ℕ} {f : List ℕ} {i n r : ℕ} → Skims E f i n r → Stood A E f → Passes A E i → Passes A E r
-passes_skims s d p = s.pass _ d p

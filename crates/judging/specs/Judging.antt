@@ -1,14 +1,16 @@
 -- What judging says of an array in a table, and what it knows on its way. Assumes nothing: these are definitions.
-use Rattle.std.specs.Prelude.{◌≡◌, Bool, true, List, ℕ, suc, ◌+◌, ◌*◌, ◌≤◌, ◌<◌, length, take, get_or}
+use Rattle.std.specs.Prelude.{◌≡◌, Bool, true, List, ℕ, suc, ◌+◌, ◌*◌, ◌≤◌, ◌<◌, length, take, get_or, Result, Ok, Err}
 use Rattle.words.specs.Lists.{at}
 use Rattle.words.specs.Numbers.{DONE}
+use Rattle.words.specs.declared.Refusal.{Refusal}
+use Rattle.words.specs.Refusals.{refused, outcome}
 use Rattle.words.specs.Stand.{weighed, verdict}
 use Rattle.arrays.specs.Steps.{Passes, peak}
 
--- what judging the first n entries of the table t says: number and place are the verdict on that array, and with the number 0 its values pass
-pub record Judges (A : ℕ) (t : List ℕ) (n w p : ℕ) : Type 0 where
-  pub says : (w, p) ≡ verdict A (take n t)
-  pub passes : w ≡ DONE → Passes A (at t) n
+-- what judging the first n entries of the table t says: it is the verdict on that array, and where nothing is refused its values pass
+pub record Judges (A : ℕ) (t : List ℕ) (n : ℕ) {T : Type 0} (r : Result T Refusal) : Type 0 where
+  pub says : outcome r ≡ verdict A (take n t)
+  pub passes : (outcome r).0 ≡ DONE → Passes A (at t) n
 
 -- from place i to place n each echo is one more than the echo before
 pub record Climbs (E : ℕ → ℕ) (i n : ℕ) : Type 0 where
@@ -37,9 +39,7 @@ pub record Skims (E : ℕ → ℕ) (f : List ℕ) (i n r : ℕ) : Type 0 where
   pub within : r ≤ n
   pub pass : (A : ℕ) → Stood A E f → Passes A E i → Passes A E r
 
--- going on from the first i places, which pass, of n: with the number 0 the first p pass; else w is the number of the next value, at place p
-pub record Passed (A : ℕ) (E : ℕ → ℕ) (i n w p : ℕ) : Type 0 where
-  pub further : i < p
-  pub within : p ≤ n
-  pub passes : w ≡ DONE → Passes A E p
-  pub stuck : (w ≡ DONE → ⊥) → (p ≡ suc i) × (w ≡ weighed A E i (E (suc i)))
+-- going on from the first i places, which pass, of n: the first p pass, or the next value is refused, at its place by its number
+abbrev pub Passed : (A : ℕ) (E : ℕ → ℕ) (i n : ℕ) → Result ℕ Refusal → Type 0
+Passed A E i n (Ok p) = (i < p) × (p ≤ n) × Passes A E p
+Passed A E i n (Err r) = (i < n) × (refused r ≡ (weighed A E i (E (suc i)), suc i))

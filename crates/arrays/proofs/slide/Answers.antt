@@ -1,6 +1,6 @@
 -- `slide`: one lemma of `Sliding` for each way out. Assumes nothing.
 use Rattle.std.proofs.Common.{rules}
-use Rattle.arrays.proofs.Sliding.{slide_less, slide_some, slide_fits, slide_in, slide_above, slide_near, slide_far}
+use Rattle.arrays.proofs.Sliding.{slide_less, slide_some, slide_in, slide_above, slide_near, slide_far}
 use Rattle.arrays.proofs.slide.Goals as goal
 
 pub overflow_sub-d : goal.overflow_sub-d
@@ -11,9 +11,6 @@ returns-then-c-end c = search (rules, slide_near)
 
 pub nonzero_rem-x : goal.nonzero_rem-x
 nonzero_rem-x c = search (rules, slide_some)
-
-pub overflow_add-x : goal.overflow_add-x
-overflow_add-x c = search (rules, slide_fits)
 
 pub echo-requires : goal.echo-requires
 echo-requires c = search (rules, slide_above, slide_in)

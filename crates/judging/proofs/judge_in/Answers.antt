@@ -1,19 +1,12 @@
 -- `judge_in`: the places behind pass. Assumes nothing.
 use Rattle.std.proofs.Common.{rules}
-use Rattle.arrays.proofs.Rules.{passes_none}
-use Rattle.judging.proofs.Passing.{passed_passes}
-use Rattle.judging.proofs.Again.{passes_skims}
+use Rattle.std.proofs.lemmas.Result.{err_from_is_err_and}
 use Rattle.judging.proofs.Judged.{judged_all, judged_stuck}
 use Rattle.judging.proofs.judge_in.Goals as goal
 
-pub loop-i-init : goal.loop-i-init
-loop-i-init c = search (rules, passes_none)
-
-pub returns-then-r-ne-DONE : goal.returns-then-r-ne-DONE
-returns-then-r-ne-DONE c = search (rules, judged_stuck)
-
-pub loop-i-preserved : goal.loop-i-preserved
-loop-i-preserved c = (search (rules, passed_passes, passes_skims), search rules)
+pub returns-in_err-place : goal.returns-in_err-place
+returns-in_err-place c = let p = err_from_is_err_and c.from_residual.result c.from_residual.ensures.1 in
+    rw (p.1, p.2) (judged_stuck _ c.loop-i.invariant.0 _ c.requires.0 c.told-t _ c.in_err-place.ensures.0)
 
 pub returns : goal.returns
 returns c = search (rules, judged_all)

@@ -1,15 +1,9 @@
 -- `level`: the first k of the places are looked at. Assumes nothing.
 use Rattle.std.proofs.Common.{rules}
 use Rattle.words.specs.Lists.{both}
-use Rattle.judging.proofs.Passing.{level_none, level_more, level_all}
+use Rattle.judging.proofs.Passing.{level_more}
 use Rattle.judging.proofs.level.Goals as goal
-
-pub loop-k-init : goal.loop-k-init
-loop-k-init c = search (rules, level_none)
 
 pub loop-k-preserved : goal.loop-k-preserved
 unfolding both
 loop-k-preserved c = search (rules, level_more)
-
-pub returns : goal.returns
-returns c = search (rules, level_all)
