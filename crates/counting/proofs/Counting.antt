@@ -124,16 +124,13 @@ module _ (A : ℕ) (t : List ℕ) (i n : ℕ) (long : length t ≡ limit) (most 
   unfolding count_from
   count_full z = let h : n - i ≡ 0 = omega arith in rw h
 
-  pub count_near : (r : ℕ) → i + 1 ≡ n → r ≡ count_from ok 1 (take i t) → r ≡ count_from ok (n - i) (take i t)
-  count_near r z h = let s : n - i ≡ 1 = omega arith in h ∙ rw s
-
   module _ (k : ℕ) (inside : i ≤ n) (top : k ≡ peak (at t) i) where
     pub open_falls : (x : ℕ) → (n - i) * 32 + 31 ≡ x → (n - i) * 32 + k < x
     open_falls x z = omega (arith, peak_low i passes)
 
     module _ (some : i ≡ n → ⊥) where
       pub open_tries : Tries A t i n k
-      open_tries = record { within = omega arith; most = most; long = long; passes = passes; value = rw top (peak_possible passes) }
+      open_tries = record { within = omega arith; most = most; passes = passes; value = rw top (peak_possible passes) }
 
       pub count_open : (r : ℕ) → r ≡ tried ok (n - (i + 1)) (take i t) (k + 1) → r ≡ count_from ok (n - i) (take i t)
       count_open r h =
@@ -153,8 +150,13 @@ kept_placed t x u i m q h = record {
       ∙ take-take i (i + 1) _ (omega arith) ∙ rw add-one (take_placed i i m t (omega arith));
 }
 
+-- the table u has the first i places of t, and behind them the value m counts here: nothing where it does not stand
+pub record Counted (A : ℕ) (t u : List ℕ) (i n m here : ℕ) : Type 0 where
+  pub kept : Kept t u i
+  pub counts : tried (standing A) (n - (i + 1)) (take i t) (m + 1) ≡ tried (standing A) (n - (i + 1)) (take i t) m + here
+
 -- `try_values`: the value m behind the first i places of t, then the next below it
-module _ (A : ℕ) (t : List ℕ) (i n m : ℕ) (tries : Tries A t i n m) where
+module _ (A : ℕ) (t : List ℕ) (i n m : ℕ) (long : length t ≡ limit) (tries : Tries A t i n m) where
   -- what the values below k count behind the first i places of v
   abbrev sums : List ℕ → ℕ → ℕ
   sums v k = tried (standing A) (n - (i + 1)) (take i v) k
@@ -163,7 +165,7 @@ module _ (A : ℕ) (t : List ℕ) (i n m : ℕ) (tries : Tries A t i n m) where
   value_in = value_most tries.passes m tries.value
 
   within : i < length t
-  within = omega (arith, tries.within, tries.most, tries.long)
+  within = omega (arith, tries.within, tries.most)
 
   pub tries_small : m < 65536
   tries_small = omega (arith, tries.within, tries.most, value_in)
@@ -171,20 +173,44 @@ module _ (A : ℕ) (t : List ℕ) (i n m : ℕ) (tries : Tries A t i n m) where
   pub next_room : m - 1 ≤ limit
   next_room = omega (arith, tries.within, tries.most, value_in)
 
-  -- a table u that keeps the first i places has the same next value, and the same count below m
-  module _ (u : List ℕ) (kept : Kept t u i) (some : m ≡ 0 → ⊥) where
+  pub counts_none : (u : List ℕ) (here : ℕ) → (weighed A (at t) i m ≡ DONE → ⊥) → u ≡ t → here ≡ 0 → Counted A t u i n m here
+  counts_none u here fails same none = record {
+    kept = rw same (kept_none t i long);
+    counts = rw (add-one m) (tried_no (standing A) (n - (i + 1)) (take i t) m (no_value A t i n long tries.most tries.passes m tries.within fails) ∙ omega arith);
+  }
+
+  -- x is the table with the value written, and v what counting the longer prefix leaves of it
+  module _ (x : List ℕ) (stands : weighed A (at t) i m ≡ DONE) (put : x ≡ placed t (i + 1) m) where
+    pub tried_passes : Passes A (at x) (i + 1)
+    tried_passes = rw (put, add-one) (placed_passes A t i m within tries.passes stands)
+
+    pub counts_some : (v u : List ℕ) (r here : ℕ) → Kept x v (i + 1) → r ≡ count_from (standing A) (n - (i + 1)) (take (i + 1) x) → u ≡ v → here ≡ r → Counted A t u i n m here
+    counts_some v u r here kept counts same is =
+        let z = counts ∙ ap (count_from (standing A) (n - (i + 1))) (ap (take (i + 1)) put ∙ placed_more t i m within) in record {
+          kept = rw same (kept_placed t x v i m put kept);
+          counts = rw (add-one m, is, z) (tried_yes (standing A) (n - (i + 1)) (take i t) m (yes_value A t i n long tries.most tries.passes m tries.within stands));
+        }
+
+  module _ (u : List ℕ) (here : ℕ) (counted : Counted A t u i n m here) where
+    none_below : m ≡ 0 → sums t m ≡ 0
+    unfolding tried
+    none_below z = rw z
+
+    pub counts_last : m ≡ 0 → here ≡ sums t (m + 1)
+    counts_last z = omega (arith, counted.counts, none_below z)
+
+    -- the table u has the same next value, and the same count below m
     tries_on : Tries A u i n m
     unfolding Possible
-    tries_on = let a = alike_along t u i (sym kept.same) in record {
+    tries_on = let a = alike_along t u i (sym counted.kept.same) in record {
       within = tries.within;
       most = tries.most;
-      long = kept.long;
       passes = passes_alike a tries.passes;
       value = either tries.value (λ z. inl z)
           (λ (l, j). inr (l, subst (λ (v : List ℕ). In m v) (behind_alike a (sound_small i (passes_sound tries.passes)) i l (omega arith)) j));
     }
 
-    module _ (k : ℕ) (next : k ≡ peak (at u) (m - 1)) where
+    module _ (k : ℕ) (next : k ≡ peak (at u) (m - 1)) (some : m ≡ 0 → ⊥) where
       below : k < m
       below = omega (arith, value_above tries_on.passes m tries_on.value (omega arith))
 
@@ -193,62 +219,31 @@ module _ (A : ℕ) (t : List ℕ) (i n m : ℕ) (tries : Tries A t i n m) where
 
       pub next_tries : Tries A u i n k
       next_tries = let s = tries_on in
-          record { within = s.within; most = s.most; long = s.long; passes = s.passes; value = rw next (next_value s.passes m s.value (omega arith)) }
+          record { within = s.within; most = s.most; passes = s.passes; value = rw next (next_value s.passes m s.value (omega arith)) }
 
-      some_below : (rest : ℕ) → rest ≡ sums u (k + 1) → rest ≡ sums t m
-      some_below rest h = let s = tries_on in
-          h ∙ sym (tried_skip (standing A) (n - (i + 1)) (take i u) (k + 1) m (omega (arith, below))
-          (λ j a b. no_value A u i n s.long s.most s.passes j s.within
-          (λ v. value_gap s.passes m j s.value (omega arith) b v)))
-          ∙ ap (λ (p : List ℕ). tried (standing A) (n - (i + 1)) p m) kept.same
+      module _ (rest : ℕ) (h : rest ≡ sums u (k + 1)) where
+        rest_below : rest ≡ sums t m
+        rest_below = let s = tries_on in
+            h ∙ sym (tried_skip (standing A) (n - (i + 1)) (take i u) (k + 1) m (omega (arith, below))
+            (λ j a b. no_value A u i n counted.kept.long s.most s.passes j s.within
+            (λ v. value_gap s.passes m j s.value (omega arith) b v)))
+            ∙ ap (λ (p : List ℕ). tried (standing A) (n - (i + 1)) p m) counted.kept.same
 
-  none_below : m ≡ 0 → sums t m ≡ 0
-  unfolding tried
-  none_below z = rw z
+        pub counts_more : here + rest ≡ sums t (m + 1)
+        counts_more = omega (arith, counted.counts, rest_below)
 
-  module _ (w : ℕ) (is : w ≡ weighed A (at t) i m) where
-    -- the value does not stand
-    module _ (fails : w ≡ DONE → ⊥) where
-      value_no : sums t (m + 1) ≡ sums t m
-      value_no = rw (add-one m) (tried_no (standing A) (n - (i + 1)) (take i t) m
-          (no_value A t i n tries.long tries.most tries.passes m tries.within (λ z. fails (is ∙ z))))
-
-      pub no_last : m ≡ 0 → 0 ≡ sums t (m + 1)
-      no_last z = omega (arith, value_no, none_below z)
-
-      pub no_more : (k rest : ℕ) → k ≡ peak (at t) (m - 1) → rest ≡ sums t (k + 1) → (m ≡ 0 → ⊥) → rest ≡ sums t (m + 1)
-      no_more k rest next h some = omega (arith, value_no, some_below t (kept_none t i tries.long) some k next rest h)
-
-    -- the value stands: x is the table with it written, and here is what it counts
-    module _ (x : List ℕ) (stands : w ≡ DONE) (put : x ≡ placed t (i + 1) m) where
-      pub tried_passes : Passes A (at x) (i + 1)
-      tried_passes = rw (put, add-one) (placed_passes A t i m within tries.passes (sym is ∙ stands))
-
-      module _ (here : ℕ) (counts : here ≡ count_from (standing A) (n - (i + 1)) (take (i + 1) x)) where
-        value_yes : sums t (m + 1) ≡ sums t m + here
-        value_yes = let z = counts ∙ ap (count_from (standing A) (n - (i + 1))) (ap (take (i + 1)) put ∙ placed_more t i m within) in
-            rw (add-one m, z) (tried_yes (standing A) (n - (i + 1)) (take i t) m
-            (yes_value A t i n tries.long tries.most tries.passes m tries.within (sym is ∙ stands)))
-
-        pub yes_last : m ≡ 0 → here ≡ sums t (m + 1)
-        yes_last z = omega (arith, value_yes, none_below z)
-
-        module _ (u : List ℕ) (k rest : ℕ) (kept : Kept x u (i + 1)) (next : k ≡ peak (at u) (m - 1)) (h : rest ≡ sums u (k + 1)) (some : m ≡ 0 → ⊥) where
-          pub yes_more : here + rest ≡ sums t (m + 1)
-          yes_more = omega (arith, value_yes, some_below u (kept_placed t x u i m put kept) some k next rest h)
-
-          -- no sum of counts is above 20!
-          pub sum_fits : Fits w64 (here + rest)
-          sum_fits = let l = length-take-le i t (omega (arith, within)) in record {
-            fits = omega (
-              arith,
-              tries.within,
-              tries.most,
-              yes_more,
-              tried_most (standing A) (n - (i + 1)) (take i t) (m + 1) (omega (arith, l, value_in)),
-              count_fits (standing A) (suc (n - (i + 1))) (take i t) (omega (arith, l, tries.within, tries.most)),
-            );
-          }
+        -- no sum of counts is above 20!
+        pub sum_fits : Fits w64 (here + rest)
+        sum_fits = let l = length-take-le i t (omega (arith, within)) in record {
+          fits = omega (
+            arith,
+            tries.within,
+            tries.most,
+            counts_more,
+            tried_most (standing A) (n - (i + 1)) (take i t) (m + 1) (omega (arith, l, value_in)),
+            count_fits (standing A) (suc (n - (i + 1))) (take i t) (omega (arith, l, tries.within, tries.most)),
+          );
+        }
 
 -- `count`
 pub count_whole : (A n r : ℕ) → r ≡ count_from (standing A) (n - 0) [] → r ≡ count A n

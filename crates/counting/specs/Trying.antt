@@ -1,7 +1,6 @@
 -- Trying the values behind a prefix: the sum of what they count, and what trying one asks. Assumes nothing: these are definitions.
-use Rattle.std.specs.Prelude.{◌≡◌, Bool, cond, List, ℕ, zero, suc, ◌+◌, ◌≤◌, ◌<◌, length}
+use Rattle.std.specs.Prelude.{Bool, cond, List, ℕ, zero, suc, ◌+◌, ◌≤◌, ◌<◌}
 use Rattle.words.specs.Lists.{at}
-use Rattle.words.specs.Numbers.{limit}
 use Rattle.words.specs.Listing.{more, count_from}
 use Rattle.arrays.specs.Steps.{Passes, Possible}
 
@@ -14,6 +13,5 @@ tried ok r p (suc k) = tried ok r p k + cond (ok p k) (count_from ok r (more p k
 pub record Tries (A : ℕ) (t : List ℕ) (i n m : ℕ) : Type 0 where
   pub within : i < n
   pub most : n ≤ 20
-  pub long : length t ≡ limit
   pub passes : Passes A (at t) i
   pub value : Possible (at t) i m

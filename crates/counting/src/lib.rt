@@ -1,7 +1,9 @@
 // Counting the standing arrays, and the published counts. An array is held in a table of 4,096 entries, as in `arrays`.
+// Stays: alphabet, table and number of places are parameters, and no struct: the fact that they share, that so many places stand, is of another number at each
+// step, so a struct would be built anew at each.
 #![tactic(auto)]
 
-ghost use Rattle.std.specs.Prelude.{◌≡◌, ◌+◌, ◌-◌, ◌≤◌, ◌<◌, length, take};
+ghost use Rattle.std.specs.Prelude.{◌≡◌, ◌+◌, ◌-◌, ◌≤◌, ◌<◌, take};
 ghost use Rattle.words.specs.Lists.{at};
 ghost use Rattle.words.specs.Numbers.{limit};
 ghost use Rattle.words.specs.Listing.{count_from, standing, count as count_of};
@@ -12,7 +14,6 @@ ghost use Rattle.counting.specs.Trying.{tried, Tries};
 
 use arrays::{echo, number_of, open_count, peak_at};
 use rows::put_echo;
-use words::DONE;
 
 // The counts over 26 letters for n = 1..10, as they were published.
 const PUBLISHED: [u64; 10] = [1, 2, 4, 9, 20, 47, 110, 263, 630, 1525];
@@ -27,7 +28,7 @@ pub fn published(n: usize) -> u64
 
 // How many values stand behind the first i places of t, which stand. The last place is counted by this rule, without a visit.
 fn count_values(a: usize, t: &[u16; 4096], i: usize) -> u64
-    requires { (i ≤ limit) × (length t.now ≡ limit) × Passes a (at t.now) i }
+    requires { (i ≤ limit) × Passes a (at t.now) i }
     ensures { result ≡ count_from (standing a) 1 (take i t.now) }
 {
     if i == 0 {
@@ -40,7 +41,7 @@ fn count_values(a: usize, t: &[u16; 4096], i: usize) -> u64
 // How many standing arrays of n places over a letters begin with the first i places of t, which stand. What is written is written behind them.
 #[cycle(count_prefix_try_values)]
 fn count_prefix(a: usize, t: &mut [u16; 4096], i: usize, n: usize) -> u64
-    requires { (i ≤ n) × (n ≤ 20) × (length t.old ≡ limit) × Passes a (at t.old) i }
+    requires { (i ≤ n) × (n ≤ 20) × Passes a (at t.old) i }
     ensures counted { result ≡ count_from (standing a) (n - i) (take i t.old) }
     ensures kept { Kept t.old t.new i }
 {
@@ -60,18 +61,16 @@ fn try_values(a: usize, t: &mut [u16; 4096], i: usize, n: usize, m: usize) -> u6
     ensures counted { result ≡ tried (standing a) (n - (i + 1)) (take i t.old) (m + 1) }
     ensures kept { Kept t.old t.new i }
 {
-    if number_of(a, t, i, m) == DONE {
+    let here = if number_of(a, t, i, m).is_ok() {
         put_echo(t, i + 1, m);
-        let here = count_prefix(a, t, i + 1, n);
-        if m == 0 {
-            here
-        } else {
-            here + try_values(a, t, i, n, peak_at(t, m - 1))
-        }
-    } else if m == 0 {
-        0
+        count_prefix(a, t, i + 1, n)
     } else {
-        try_values(a, t, i, n, peak_at(t, m - 1))
+        0
+    };
+    if m == 0 {
+        here
+    } else {
+        here + try_values(a, t, i, n, peak_at(t, m - 1))
     }
 }
 

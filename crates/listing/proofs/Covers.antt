@@ -5,12 +5,13 @@ use mathlib.Core.Bool.{cond}
 use Prim.Native.Nat.{ℕ, zero, suc, ◌+◌, ◌-◌, ◌≤◌, ◌<◌}
 use native.Mathlib.Omega.{arith}
 use native.Mathlib.Numerals.{add-one}
-use lib.Dec.{eqb}
-use borrow.Author.Tests.{eq-eqb, ne_eqb}
+use lib.Dec.{eqb, ltb}
+use borrow.Author.Tests.{eq-eqb, ne_eqb, ltb-true, ltb-false}
 use Rattle.words.specs.Rows.{Small}
 use Rattle.words.specs.Numbers.{DONE}
 use Rattle.words.specs.Stand.{possible, weight}
-use Rattle.words.proofs.Lists.{either, same?, In, In-nil, In-cons}
+use Rattle.std.specs.Prelude.{min}
+use Rattle.words.proofs.Lists.{which, either, same?, In, In-nil, In-cons}
 use Rattle.words.proofs.Rows.{down_ind, down_zero, down_suc}
 use Rattle.arrays.specs.Steps.{Passes, Sound, peak}
 use Rattle.arrays.proofs.Rules.{possible_above, possible_zero, possible_suc, possible_range, small_at, weight_open, weight_done, weighed_more, sound_at, sound_small, sound_part, passes_sound, echo_possible, walk_top, walk_hit, walk_on, peak_most}
@@ -221,15 +222,20 @@ module _ (E : ℕ → ℕ) (i p v : ℕ) (seeks : Seeks E i p v) where
           covers_at : t ≡ cover E p (E i)
           covers_at = covers ∙ ap (cover E p) is
 
-          pub lower_this : t < rest → Lower E i p v t
+          lower_this : t < rest → Lower E i p v t
           lower_this h = let (w, l) = cover_open seeks.sound (E i) echo_in p there_is in record {
             shows = rw covers_at w;
             above = omega (arith, covers_at);
             least = rest_of t (λ q j a g. omega (arith, lower.least q j a g)) (omega (arith, covers_at));
           }
 
-          pub lower_kept : rest ≤ t → Lower E i p v rest
+          lower_kept : rest ≤ t → Lower E i p v rest
           lower_kept h = record { shows = lower.shows; above = lower.above; least = rest_of rest lower.least (omega (arith, covers_at)) }
+
+          pub lower_min : (r : ℕ) → r ≡ min t rest → Lower E i p v r
+          lower_min r e = either (which (ltb t rest))
+              (λ l. subst (λ (x : ℕ). Lower E i p v x) (omega (arith, ltb-true t rest l)) (lower_this (ltb-true t rest l)))
+              (λ l. subst (λ (x : ℕ). Lower E i p v x) (omega (arith, ltb-false t rest l)) (lower_kept (ltb-false t rest l)))
 
 -- all the possible values looked at: the least value from v + 1 on that stands
 pub lower_least : (A : ℕ) (E : ℕ → ℕ) (i p v r : ℕ) → Passes A E i → 0 < i → p ≡ peak E i → Lower E i p v r → LeastValue A E i (v + 1) r

@@ -8,12 +8,12 @@ use native.Mathlib.Numerals.{add-one, sub-one}
 use lib.Dec.{ltb, eqb}
 use lib.ListN.{length, get_or, take}
 use lib.Seq.{get_or-take, length-take-le, take-take}
-use borrow.Author.Tests.{ltb-true, lt-ltb, le-ltb, eqb-true}
-use Rattle.words.specs.Lists.{both, at, placed}
+use borrow.Author.Tests.{ltb-true, eqb-true}
+use Rattle.words.specs.Lists.{at, placed}
 use Rattle.words.specs.Numbers.{DONE, limit}
 use Rattle.words.specs.Stand.{Stands, weighed}
 use Rattle.words.specs.Listing.{First}
-use Rattle.words.proofs.Lists.{either, same?, both_left, both_out}
+use Rattle.words.proofs.Lists.{either, same?, both_out}
 use Rattle.words.proofs.Order.{Parts, Lowest, Highest}
 use Rattle.words.proofs.Places.{placed_long, placed_same, placed_other}
 use Rattle.words.proofs.Rows.{alike_take, alike_along}
@@ -22,22 +22,12 @@ use Rattle.arrays.proofs.Rules.{weighed_first, passes_sound, passes_part, sound_
 use Rattle.arrays.proofs.Alike.{weighed_alike, passes_alike}
 use Rattle.arrays.proofs.Theorem.{stands_passes, passes_stands}
 use Rattle.listing.specs.Sets.{Sized}
-use Rattle.listing.specs.Values.{Seeks, Lower, LeastValue, repeated, Lows, Filled, Highs, Turned, Raised, Stepped, stepped, ended}
+use Rattle.listing.specs.Values.{Seeks, Lower, LeastValue, repeated, Lows, Filled, Highs, Turns, Raised, Stepped, stepped, ended}
 use Rattle.listing.proofs.Steps.{first_steps, last_steps, next_steps}
 use Rattle.listing.proofs.Standing.{least_first, least_next, after_stands}
 use Rattle.listing.proofs.Few.{only_peak}
-use Rattle.listing.proofs.Values.{peak_possible, kept_none, placed_weighed, placed_passes, take_placed}
+use Rattle.listing.proofs.Values.{peak_possible, placed_weighed, placed_passes, take_placed}
 use Rattle.listing.proofs.Covers.{lower_least}
-
--- `repeats`
-module _ (E : ℕ → ℕ) (i k : ℕ) where
-  pub repeats_near : k ≤ i + 1 → false ≡ repeated E i k
-  unfolding repeated
-  repeats_near h = sym (both_left (ltb (i + 1) k) (eqb (E (k - 1)) (E k)) (le-ltb (i + 1) k h))
-
-  pub repeats_far : (x y : ℕ) → i + 1 < k → x ≡ E (k - 1) → y ≡ E k → eqb x y ≡ repeated E i k
-  unfolding repeated both
-  repeats_far x y h p q = rw (lt-ltb (i + 1) k h, p, q)
 
 -- what stands behind a place depends on its echo
 same_echo : (A : ℕ) (E : ℕ → ℕ) (c m : ℕ) → E (suc c) ≡ E (suc (suc c)) → weighed A E (suc (suc c)) m ≡ weighed A E (suc c) m
@@ -75,9 +65,9 @@ module _ (A : ℕ) (E : ℕ → ℕ) (i k : ℕ) (lows : Lows A E i k) where
         least = λ m g h. rw e (w.least (suc c) (omega arith) (omega arith) m (sym (same_echo A E c m s) ∙ h));
       }
 
-  module _ (w p : ℕ) (is : w ≡ weighed A E k 0) (full : w ≡ DONE → ⊥) (top : p ≡ peak E k) where
+  module _ (p : ℕ) (full : weighed A E k 0 ≡ DONE → ⊥) (top : p ≡ peak E k) where
     later : 0 < k
-    later = either (same? k 0) (λ z. absurd (full (is ∙ rw z (weighed_first A E 0 refl)))) (λ d. omega arith)
+    later = either (same? k 0) (λ z. absurd (full (rw z (weighed_first A E 0 refl)))) (λ d. omega arith)
 
     above : 0 < peak E k
     unfolding peak
@@ -94,13 +84,10 @@ module _ (A : ℕ) (E : ℕ → ℕ) (i k : ℕ) (lows : Lows A E i k) where
     seek_open r lower = let v = lower_least A E k p 0 r lows.passes later top lower in record {
       from = omega arith;
       stands = v.stands;
-      least = λ m l g. either (same? m 0) (λ z. absurd (full (is ∙ rw z at g))) (λ d. v.least m (omega arith) g);
+      least = λ m l g. either (same? m 0) (λ z. absurd (full (rw z at g))) (λ d. v.least m (omega arith) g);
     }
 
 -- `fill`
-pub fill_none : (A : ℕ) (t : List ℕ) (i : ℕ) → length t ≡ limit → Passes A (at t) i → Filled A t t i i
-fill_none A t i l p = record { kept = kept_none t i l; lows = record { passes = p; least = λ j a b m w. absurd (omega arith) } }
-
 module _ (A : ℕ) (t u : List ℕ) (i n k v : ℕ) (filled : Filled A t u i k) (value : LeastValue A (at u) k 0 v) (room : n ≤ limit) (inside : k < n) where
   passes : Passes A (at u) k
   passes = filled.lows.passes
@@ -122,9 +109,6 @@ module _ (A : ℕ) (t u : List ℕ) (i n k v : ℕ) (filled : Filled A t u i k) 
           (filled.lows.least j a (omega arith) m (sym (placed_weighed A u k v j m (omega arith) passes) ∙ w)));
     };
   })
-
-pub fill_done : (A : ℕ) (t u : List ℕ) (i k n : ℕ) → Filled A t u i k → k ≤ n → n ≤ k → Filled A t u i n
-fill_done A t u i k n h l g = subst (λ (x : ℕ). Filled A t u i x) (omega arith) h
 
 -- the array of n places in the table t
 module _ (A : ℕ) (t : List ℕ) (n : ℕ) (room : n ≤ limit) (whole : length t ≡ limit) where
@@ -164,25 +148,6 @@ first_done A t u n h pos l = least_first A n (take n u) (first_steps (Stands A) 
     (record { is = array_stands A u n l h.kept.long pos h.lows.passes; long = array_long A u n l h.kept.long })
     (array_lowest A u n l h.kept.long 0 h.lows))
 
--- `turn`
-pub turn_start : (E : ℕ → ℕ) (n i : ℕ) → i ≡ n → Highs E n i
-turn_start E n i z = record { within = omega arith; high = λ j a b. absurd (omega arith) }
-
-pub turn_end : (E : ℕ → ℕ) (n i : ℕ) → Highs E n i → i ≤ 0 → Turned E n 0
-turn_end E n i t z = record { highs = record { within = omega arith; high = λ j a b. t.high j (omega arith) b }; grows = λ d. absurd (d refl) }
-
-module _ (E : ℕ → ℕ) (n i m p : ℕ) (highs : Highs E n i) (is : m ≡ E i) (top : p ≡ peak E (i - 1)) where
-  pub turn_found : m < p → Turned E n i
-  turn_found l = record { highs = highs; grows = λ d. omega arith }
-
-  pub turn_on : p ≤ m → Highs E n (i - 1)
-  turn_on l = record {
-    within = omega (arith, highs.within);
-    high = λ j a b. either (same? (suc j) i)
-        (λ z. let q : j ≡ i - 1 = omega arith in rw z (rw q (omega arith)))
-        (λ d. highs.high j (omega arith) b);
-  }
-
 -- `raise`
 module _ (A : ℕ) (t : List ℕ) (k m p : ℕ) (is : m ≡ at t (k + 1)) (passes : Passes A (at t) k) (grows : at t (k + 1) < peak (at t) k) (top : p ≡ peak (at t) k) where
   not_first : 0 < k
@@ -215,66 +180,53 @@ module _ (A : ℕ) (t : List ℕ) (k m p : ℕ) (is : m ≡ at t (k + 1)) (passe
 
 -- `next`
 module _ (A : ℕ) (t : List ℕ) (n : ℕ) (room : n ≤ limit) (whole : length t ≡ limit) (good : Passes A (at t) n) where
-  part : (k : ℕ) → k ≤ n → Passes A (at t) k
-  part k l = passes_part k l good
+  pub next_last : Highs (at t) n 0 → Stepped A (take n t) (take n t) false
+  next_last highs = ended refl (λ y a. last_steps (Stands A) (take n t) (array_highest A t n room whole 0 good highs) y (after_stands A a)) refl
 
-  module _ (k : ℕ) (turned : Turned (at t) n k) where
-    highest : Highest (Stands A) (take n t) k
-    highest = array_highest A t n room whole k (part n (omega arith)) turned.highs
+  module _ (k : ℕ) (turns : Turns (at t) n k) where
+    inside : k < n
+    inside = omega (arith, turns.highs.within)
 
-    pub next_last : k ≡ 0 → Stepped A (take n t) (take n t) false
-    next_last z = ended refl (λ y a. last_steps (Stands A) (take n t) (subst (λ (j : ℕ). Highest (Stands A) (take n t) j) z highest) y (after_stands A a)) refl
+    module _ (u : List ℕ) (pos : 0 < A) (raised : Raised A t u k n) where
+      raises : LeastValue A (at t) k (get_or t k 0 + 1) (get_or u k 0)
+      unfolding at
+      raises = rw (add-one k) at raised.value
 
-    module _ (some : k ≡ 0 → ⊥) where
-      pub turn_in : k - 1 < n
-      turn_in = omega (arith, turned.highs.within)
+      filled : Filled A (placed t (suc k) (get_or u k 0)) u (suc k) n
+      unfolding at
+      filled = rw add-one at raised.filled
 
-      pub turn_passes : Passes A (at t) (k - 1)
-      turn_passes = part (k - 1) (omega (arith, turned.highs.within))
+      -- the arrays before and behind the step, and their values at the place that rises
+      old : length (take n t) ≡ n
+      old = array_long A t n room whole
 
-      pub turn_grows : at t (k - 1 + 1) < peak (at t) (k - 1)
-      turn_grows = let z : k - 1 + 1 ≡ k = omega arith in rw z (turned.grows some)
+      new : length (take n u) ≡ n
+      new = array_long A u n room filled.kept.long
 
-      module _ (u : List ℕ) (pos : 0 < A) (raised : Raised A t u (k - 1) n) where
-        raises : LeastValue A (at t) (k - 1) (get_or t (k - 1) 0 + 1) (get_or u (k - 1) 0)
-        unfolding at
-        raises = rw (add-one (k - 1)) at raised.value
+      was : get_or (take n t) k 0 ≡ get_or t k 0
+      was = get_or-take n t k 0 inside
 
-        filled : Filled A (placed t (suc (k - 1)) (get_or u (k - 1) 0)) u (suc (k - 1)) n
-        unfolding at
-        filled = rw add-one at raised.filled
+      is : get_or (take n u) k 0 ≡ get_or u k 0
+      is = get_or-take n u k 0 inside
 
-        -- the arrays before and behind the step, and their values at the place that rises
-        old : length (take n t) ≡ n
-        old = array_long A t n room whole
+      sized : Sized (Stands A) (length (take n t)) (take n u)
+      sized = record { is = array_stands A u n room filled.kept.long pos filled.lows.passes; long = new ∙ sym old }
 
-        new : length (take n u) ≡ n
-        new = array_long A u n room filled.kept.long
+      same : take k t ≡ take k u
+      same = sym (take_placed k k (get_or u k 0) t (omega arith))
+          ∙ sym (take-take k (suc k) _ (omega arith)) ∙ ap (take k) (sym filled.kept.same)
+          ∙ take-take k (suc k) u (omega arith)
 
-        was : get_or (take n t) (k - 1) 0 ≡ get_or t (k - 1) 0
-        was = get_or-take n t (k - 1) 0 turn_in
+      parts : Parts (take n t) (take n u) k
+      parts = record {
+        within = omega (arith, old, inside);
+        same = take-take k n t (omega (arith, inside)) ∙ same ∙ sym (take-take k n u (omega (arith, inside)));
+        less = omega (arith, raises.from, was, is);
+      }
 
-        is : get_or (take n u) (k - 1) 0 ≡ get_or u (k - 1) 0
-        is = get_or-take n u (k - 1) 0 turn_in
-
-        sized : Sized (Stands A) (length (take n t)) (take n u)
-        sized = record { is = array_stands A u n room filled.kept.long pos filled.lows.passes; long = new ∙ sym old }
-
-        same : take (k - 1) t ≡ take (k - 1) u
-        same = sym (take_placed (k - 1) (k - 1) (get_or u (k - 1) 0) t (omega arith))
-            ∙ sym (take-take (k - 1) (suc (k - 1)) _ (omega arith)) ∙ ap (take (k - 1)) (sym filled.kept.same)
-            ∙ take-take (k - 1) (suc (k - 1)) u (omega arith)
-
-        parts : Parts (take n t) (take n u) (k - 1)
-        parts = record {
-          within = omega (arith, old, turn_in);
-          same = take-take (k - 1) n t (omega (arith, turn_in)) ∙ same ∙ sym (take-take (k - 1) n u (omega (arith, turn_in)));
-          less = omega (arith, raises.from, was, is);
-        }
-
-        pub next_done : Stepped A (take n t) (take n u) true
-        next_done = stepped refl (least_next A (take n t) (take n u) (next_steps (Stands A) (take n t) (take n u) (k - 1) sized parts
-            (subst (λ (j : ℕ). Highest (Stands A) (take n t) j) (omega arith) highest)
-            (array_lowest A u n room filled.kept.long (suc (k - 1)) filled.lows)
-            (λ z s l q g. rw is (raises.least (get_or z (k - 1) 0) (omega (arith, was))
-            (member_weighed A t n room whole z (k - 1) s l (omega (arith, old, turn_in)) q)))))
+      pub next_done : Stepped A (take n t) (take n u) true
+      next_done = stepped refl (least_next A (take n t) (take n u) (next_steps (Stands A) (take n t) (take n u) k sized parts
+          (array_highest A t n room whole (suc k) good turns.highs)
+          (array_lowest A u n room filled.kept.long (suc k) filled.lows)
+          (λ z s l q g. rw is (raises.least (get_or z k 0) (omega (arith, was))
+          (member_weighed A t n room whole z k s l (omega (arith, old, inside)) q)))))

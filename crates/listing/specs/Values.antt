@@ -1,5 +1,5 @@
 -- The values behind standing places, and what the code's steps ask and give. Assumes nothing: these are definitions.
-use Rattle.std.specs.Prelude.{◌≡◌, Bool, true, false, cond, List, ℕ, suc, ◌+◌, ◌-◌, ◌≤◌, ◌<◌, ltb, eqb, length, take}
+use Rattle.std.specs.Prelude.{◌≡◌, MatchOption, Option, Bool, true, false, cond, List, ℕ, suc, ◌+◌, ◌-◌, ◌≤◌, ◌<◌, ltb, eqb, length, take}
 use Rattle.words.specs.Lists.{both, at, placed}
 use Rattle.words.specs.Rows.{down}
 use Rattle.words.specs.Numbers.{DONE, limit}
@@ -51,14 +51,19 @@ pub record Filled (A : ℕ) (t u : List ℕ) (i k : ℕ) : Type 0 where
   pub kept : Kept t u i
   pub lows : Lows A (at u) i k
 
--- of the places from the i-th to the n-th each has the greatest value; r is the last of n places that has not, 0 where each has it
+-- of the places from the i-th to the n-th each has the greatest value
 pub record Highs (E : ℕ → ℕ) (n i : ℕ) : Type 0 where
   pub within : i ≤ n
   pub high : (j : ℕ) → i ≤ j → j < n → peak E j ≤ E (suc j)
 
-pub record Turned (E : ℕ → ℕ) (n r : ℕ) : Type 0 where
-  pub highs : Highs E n r
-  pub grows : (r ≡ 0 → ⊥) → E r < peak E (r - 1)
+-- k places stand before the last of n that has not the greatest value
+pub record Turns (E : ℕ → ℕ) (n k : ℕ) : Type 0 where
+  pub highs : Highs E n (suc k)
+  pub grows : E (suc k) < peak E k
+
+-- r is that k, or none where each of n places has the greatest value
+abbrev pub Turned : (ℕ → ℕ) → ℕ → Option ℕ → Type 0
+Turned E n r = MatchOption r (Highs E n 0) (Turns E n)
 
 -- the table u has the first k places of t, behind them the least value above t's, and the least values behind that, up to the n-th place
 pub record Raised (A : ℕ) (t u : List ℕ) (k n : ℕ) : Type 0 where

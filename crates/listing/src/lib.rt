@@ -1,4 +1,6 @@
 // Stepping through the standing arrays: the first, and the next of each. An array is held in a table of 4,096 entries, as in `arrays`.
+// Stays: alphabet, table and number of places are parameters, and no struct: the fact that they share, that so many places stand, is of another number at each
+// step, so a struct would be built anew at each.
 #![tactic(auto)]
 
 ghost use Rattle.std.specs.Prelude.{◌≡◌, suc, ◌+◌, ◌≤◌, ◌<◌, length, take};
@@ -12,7 +14,6 @@ ghost use Rattle.listing.specs.Values.{cover as cover_of, Seeks, Lower, LeastVal
 
 use arrays::{echo, number_of, peak_at};
 use rows::put_echo;
-use words::DONE;
 
 // The open value that the possible value p is, or is hidden behind, where the echo of the place before is b: a walk along the chain, and up again.
 fn cover(t: &[u16; 4096], b: usize, p: usize) -> usize
@@ -39,20 +40,16 @@ fn least_open(t: &[u16; 4096], i: usize, p: usize, v: usize) -> usize
     if v < echo(t, p) {
         return rest;
     }
-    let c = cover(t, echo(t, i), p);
-    if c < rest { c } else { rest }
+    cover(t, echo(t, i), p).min(rest)
 }
 
 // Whether place k has the echo of the place before it, which is behind the first i.
+#[tactic(auto, unfolding(crate::specs::Values::repeated, words::specs::Lists::both))]
 fn repeats(t: &[u16; 4096], i: usize, k: usize) -> bool
     requires { (i < limit) × (k ≤ limit) }
     ensures { result ≡ repeated (at t.now) i k }
 {
-    if i + 1 < k {
-        echo(t, k - 1) == echo(t, k)
-    } else {
-        false
-    }
+    i + 1 < k && echo(t, k - 1) == echo(t, k)
 }
 
 // The least value that stands behind the first k places, where each behind the first i has the least. Over one letter only the greatest stands. The
@@ -67,7 +64,7 @@ fn least_value(a: usize, t: &[u16; 4096], i: usize, k: usize) -> usize
     if repeats(t, i, k) {
         return echo(t, k);
     }
-    if number_of(a, t, k, 0) == DONE {
+    if number_of(a, t, k, 0).is_ok() {
         return 0;
     }
     least_open(t, k, peak_at(t, k), 0)
@@ -75,43 +72,40 @@ fn least_value(a: usize, t: &[u16; 4096], i: usize, k: usize) -> usize
 
 // Writes the least value at each place behind the first i, up to the n-th.
 fn fill(a: usize, t: &mut [u16; 4096], i: usize, n: usize)
-    requires { (i ≤ n) × (n ≤ limit) × (length t.old ≡ limit) × Passes a (at t.old) i }
+    requires { (i ≤ n) × (n ≤ limit) × Passes a (at t.old) i }
     ensures { Filled a t.old t.new i n }
 {
-    let mut k = i;
-    while k < n {
+    for k in i..n {
         let v = least_value(a, t, i, k);
         put_echo(t, k + 1, v);
-        k += 1;
     }
 }
 
 // Writes the least standing array of n places into the table.
+// Stays: the length, here and in `next`, as in `arrays::hold`.
 pub fn first(a: usize, t: &mut [u16; 4096], n: usize)
-    requires { (0 < a) × (n ≤ limit) × (length t.old ≡ limit) }
+    requires { (0 < a) × (n ≤ limit) }
     ensures { First a n (take n t.new) × (length t.new ≡ limit) }
 {
     fill(a, t, 0, n)
 }
 
-// The last of the first n places whose value is not the greatest that stands there; 0 where there is none.
-fn turn(t: &[u16; 4096], n: usize) -> usize
+// How many places stand before the last of the first n whose value is not the greatest that stands there, if there is one.
+fn turn(t: &[u16; 4096], n: usize) -> Option<usize>
     requires { n ≤ limit }
     ensures { Turned (at t.now) n result }
 {
-    let mut i = n;
-    while 0 < i {
-        if echo(t, i) < peak_at(t, i - 1) {
-            return i;
+    for k in (0..n).rev() {
+        if echo(t, k + 1) < peak_at(t, k) {
+            return Some(k);
         }
-        i -= 1;
     }
-    0
+    None
 }
 
 // Raises the value behind the first k places to the next that stands, and writes the least values behind it, up to the n-th place.
 fn raise(a: usize, t: &mut [u16; 4096], k: usize, n: usize)
-    requires { (k < n) × (n ≤ limit) × (length t.old ≡ limit) × Passes a (at t.old) k × (at t.old (k + 1) < peak (at t.old) k) }
+    requires { (k < n) × (n ≤ limit) × Passes a (at t.old) k × (at t.old (k + 1) < peak (at t.old) k) }
     ensures { Raised a t.old t.new k n }
 {
     let v = least_open(t, k, peak_at(t, k), echo(t, k + 1));
@@ -123,13 +117,12 @@ fn raise(a: usize, t: &mut [u16; 4096], k: usize, n: usize)
 // `turn` reads each place once; the place that rises walks its chain once for each letter. Behind it, over more than one letter, a place whose zero is
 // full gets at most one more than the echo of the echo before it, so the echoes fall along a chain, or stay and repeat; and behind a zero all are zero.
 pub fn next(a: usize, t: &mut [u16; 4096], n: usize) -> bool
-    requires { (0 < a) × (n ≤ limit) × (length t.old ≡ limit) × Passes a (at t.old) n }
+    requires { (0 < a) × (n ≤ limit) × Passes a (at t.old) n }
     ensures { Stepped a (take n t.old) (take n t.new) result × (length t.new ≡ limit) }
 {
-    let k = turn(t, n);
-    if k == 0 {
+    let Some(k) = turn(t, n) else {
         return false;
-    }
-    raise(a, t, k - 1, n);
+    };
+    raise(a, t, k, n);
     true
 }

@@ -2,12 +2,12 @@
 use mathlib.Core.Path.{◌≡◌, refl, sym, ap, ap₂, subst, ◌∙◌}
 use mathlib.Core.Bool.{Bool, true, false}
 use mathlib.Core.List.{List, [], ◌∷◌, ◌++◌}
-use Prim.Native.Nat.{ℕ, zero, suc, ◌+◌, ◌-◌, ◌≤◌, ◌<◌}
+use Prim.Native.Nat.{ℕ, zero, suc, ◌+◌, ◌≤◌, ◌<◌}
 use native.Mathlib.Omega.{arith}
-use native.Mathlib.Numerals.{add-one, sub-one}
+use native.Mathlib.Numerals.{add-one}
 use lib.Dec.{eqb}
 use lib.ListN.{length, take, set}
-use lib.Seq.{take-suc-set, take_all}
+use lib.Seq.{take-suc-set}
 use borrow.Author.Tests.{eq-eqb, ne_eqb}
 use Rattle.words.specs.Lists.{each, any}
 use Rattle.words.specs.Rows.{card, Small, Alike}
@@ -16,7 +16,9 @@ use Rattle.words.specs.Stand.{possible}
 use Rattle.words.specs.Least.{least_not, free_letter, next_card, rebuilt}
 use Rattle.words.proofs.Rows.{small_less, alike_at, alike_part, alike_refl, alike_sym}
 use Rattle.arrays.specs.Steps.{Passes, Sound, Echoing}
-use Rattle.words.proofs.Lists.{each_same}
+use Rattle.words.proofs.Lists.{either, same?, each_same}
+use Rattle.std.specs.Option.{MatchOption, unwrap_or}
+use Rattle.std.specs.Prelude.{Option, None, Some}
 use Rattle.arrays.proofs.Rules.{small_at, sound_small, passes_sound, passes_part, possible_zero, possible_suc, possible_range, weighed_room}
 use Rattle.arrays.proofs.Behind.{behind_in, behind_sound}
 use Rattle.arrays.proofs.Cards.{echoing_alike}
@@ -47,27 +49,24 @@ module _ (E X : ℕ → ℕ) (b c : ℕ) (sound : Sound E (suc b)) where
       go zero s d z = absurd (z refl)
       go (suc b) s d z = rw (possible_suc (sound_small (suc (suc b)) s) b (omega arith), ne_eqb c (X (suc (suc b))) (λ e. d (sym e)))
 
--- the ways out of `least`
-module _ (l : List ℕ) (f c : ℕ) where
-  pub least_end : f ≡ 0 → c ≡ least_not f c l
+-- `least`: the first letter that `find` finds, or the byte behind the letters
+module _ (l : List ℕ) where
+  least_some : (f c i : ℕ) → c ≤ i → i < c + f → any (eqb i) l ≡ false → ((k : ℕ) → c ≤ k → k < i → any (eqb k) l ≡ true) → i ≡ least_not f c l
   unfolding least_not
-  least_end z = rw z
+  least_some zero c i a b n y = absurd (omega arith)
+  least_some (suc f) c i a b n y = either (same? c i)
+      (λ e. rw e (rw n (refl)))
+      (λ d. rw (y c (omega arith) (omega arith)) (least_some f (suc c) i (omega arith) (omega arith) n (λ k g h. y k (omega arith) h)))
 
-  pub least_here : (t : Bool) → (f ≡ 0 → ⊥) → t ≡ any (eqb c) l → t ≡ false → c ≡ least_not f c l
+  least_none : (f c : ℕ) → ((k : ℕ) → c ≤ k → k < c + f → any (eqb k) l ≡ true) → c + f ≡ least_not f c l
   unfolding least_not
-  least_here t z e h = go f z
-    where
-      go : (f : ℕ) → (f ≡ 0 → ⊥) → c ≡ least_not f c l
-      go zero z = absurd (z refl)
-      go (suc f) z = rw (sym e ∙ h)
+  least_none zero c y = omega arith
+  least_none (suc f) c y = rw (y c (omega arith) (omega arith)) (omega (arith, least_none f (suc c) (λ k g h. y k (omega arith) (omega arith))))
 
-  pub least_on : (t : Bool) (r : ℕ) → (f ≡ 0 → ⊥) → t ≡ any (eqb c) l → t ≡ true → r ≡ least_not (f - 1) (c + 1) l → r ≡ least_not f c l
-  unfolding least_not
-  least_on t r z e h q = go f z q
-    where
-      go : (f : ℕ) → (f ≡ 0 → ⊥) → r ≡ least_not (f - 1) (c + 1) l → r ≡ least_not f c l
-      go zero z q = absurd (z refl)
-      go (suc f) z q = rw (sym e ∙ h) (rw (sub-one, add-one) at q)
+  pub least_found : (f c r : ℕ) (o : Option ℕ) → MatchOption o ((k : ℕ) → c ≤ k → k < c + f → any (eqb k) l ≡ true)
+      (λ i. (c ≤ i) × (i < c + f) × (any (eqb i) l ≡ false) × ((k : ℕ) → c ≤ k → k < i → any (eqb k) l ≡ true)) → r ≡ unwrap_or o (c + f) → r ≡ least_not f c l
+  least_found f c r None y e = e ∙ least_none f c y
+  least_found f c r (Some i) h e = e ∙ least_some f c i h.0 h.1 h.2 h.3
 
 -- the ways out of `next_card`, where x has the first i cards of the least row
 pub next_first : (E X : ℕ → ℕ) (i m : ℕ) → i ≡ 0 → first_letter ≡ next_card E X i m
@@ -135,7 +134,7 @@ write_none E [] = refl
 write_none E (a ∷ x) = refl
 
 module _ (A : ℕ) (E : ℕ → ℕ) (n : ℕ) (passes : Passes A E n) where
-  pub passed : (x : List ℕ) (i : ℕ) → length x ≡ n → i < length x → Passes A E (i + 1)
+  passed : (x : List ℕ) (i : ℕ) → length x ≡ n → i < length x → Passes A E (i + 1)
   passed x i g h = passes_part (i + 1) (omega arith) passes
 
   pub write_more : (x : List ℕ) (i c : ℕ) → take i x ≡ rebuilt E i → i < length x → length x ≡ n → c ≡ next_card E (card x) i (E (i + 1)) → take (i + 1) (set x i c) ≡ rebuilt E (i + 1)
@@ -147,6 +146,3 @@ module _ (A : ℕ) (E : ℕ → ℕ) (n : ℕ) (passes : Passes A E n) where
       let d : c ≡ next_card E (card (rebuilt E i)) i (E (suc i)) = q ∙ ap (next_card E (card x) i) f
       ∙ next_alike i (E (suc i)) (small_less i (omega arith) s) l (card_take x i) ∙ ap (λ (y : List ℕ). next_card E (card y) i (E (suc i))) t in
       rw add-one (take-suc-set x i c (omega arith) ∙ ap₂ (λ (y : List ℕ) (z : ℕ). y ++ (z ∷ [])) t d)
-
-pub written : (E : ℕ → ℕ) (n : ℕ) (x : List ℕ) (i : ℕ) → take i x ≡ rebuilt E i → i ≤ n → length x ≤ i → length x ≡ n → x ≡ rebuilt E n
-written E n x i t h k l = sym (take_all n x (omega arith)) ∙ (let g : n ≡ i = omega arith in rw g t)

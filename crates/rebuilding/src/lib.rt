@@ -1,10 +1,11 @@
 // The least row of an array of echoes that stands, held in a table as in `arrays`.
+// Stays: table and row are parameters, and no struct: `rebuild` gets them apart, and writes the row between two steps that read both.
 #![tactic(auto)]
 
 ghost use Rattle.std.specs.Prelude.{◌≡◌, suc, ◌+◌, ◌≤◌, ◌<◌, eqb, length, take};
 ghost use Rattle.words.specs.Lists.{any, at, each};
 ghost use Rattle.words.specs.Rows.{card};
-ghost use Rattle.words.specs.Numbers.{letters, limit};
+ghost use Rattle.words.specs.Numbers.{first_letter, letters, limit};
 ghost use Rattle.words.specs.Least.{least_not, next_card, rebuilt};
 ghost use Rattle.words.specs.Stand.{possible};
 ghost use Rattle.arrays.specs.Steps.{Passes, Sound};
@@ -27,18 +28,16 @@ fn taken(t: &[u16; 4096], x: &[u8], b: usize, c: u8) -> bool
     }
 }
 
-// The least letter from c on, f of them to try, that is the card of no possible place.
-fn least(t: &[u16; 4096], x: &[u8], b: usize, c: u8, f: usize) -> u8
-    requires { (b < limit) × (b < length x.now) × (c + f < 256) × Sound (at t.now) (suc b) }
-    ensures { result ≡ least_not f c (each (card x.now) (possible (at t.now) b)) }
+// The least letter that is the card of no possible place, of the first a letters; the byte behind them where there is none.
+// Stays: `least_not` gives that byte, so an Option would be undone at once.
+fn least(t: &[u16; 4096], x: &[u8], b: usize, a: usize) -> u8
+    requires { (b < limit) × (b < length x.now) × (a ≤ letters) × Sound (at t.now) (suc b) }
+    ensures { result ≡ least_not a first_letter (each (card x.now) (possible (at t.now) b)) }
 {
-    if f == 0 {
-        c
-    } else if taken(t, x, b, c) {
-        least(t, x, b, c + 1, f - 1)
-    } else {
-        c
-    }
+    let end = FIRST_LETTER + a as u8;
+    (FIRST_LETTER..end)
+        .find(|c| !taken(t, x, b, *c))
+        .unwrap_or(end)
 }
 
 // The card of place i + 1 of the least row, where x has its first i cards.
@@ -51,7 +50,7 @@ fn next_card(a: usize, t: &[u16; 4096], x: &[u8], i: usize) -> u8
     } else {
         let m = echo(t, i + 1);
         if m == 0 {
-            least(t, x, echo(t, i), FIRST_LETTER, a)
+            least(t, x, echo(t, i), a)
         } else {
             card_at(x, m)
         }
@@ -63,10 +62,7 @@ pub fn rebuild(a: usize, t: &[u16; 4096], x: &mut [u8])
     requires { (a ≤ letters) × (length x.old ≤ limit) × Passes a (at t.now) (length x.old) }
     ensures { x.new ≡ rebuilt (at t.now) (length x.old) }
 {
-    let mut i = 0;
-    while i < x.len() {
-        let c = next_card(a, t, x, i);
-        x[i] = c;
-        i += 1;
+    for i in 0..x.len() {
+        x[i] = next_card(a, t, x, i);
     }
 }

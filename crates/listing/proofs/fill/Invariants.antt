@@ -1,10 +1,6 @@
 -- `fill`: the places behind the first i have the least values, up to the k-th. Assumes nothing.
-use Prim.Native.Nat.{◌-◌, ◌≤◌}
 use Rattle.listing.specs.Values.{Filled}
 use Rattle.listing.proofs.fill.Given as goal
 
 abbrev pub invariant-loop-k : goal.invariant-loop-k
-invariant-loop-k l = (l.i ≤ l.k) × (l.k ≤ l.n) × Filled l.a l.initial.t l.t l.i l.k
-
-abbrev pub decreases-loop-k : goal.decreases-loop-k
-decreases-loop-k l = l.n - l.k
+invariant-loop-k l = Filled l.a l.initial.t l.t l.i l.k

@@ -1,5 +1,6 @@
 -- `least_value`: one lemma of `Stepping` for each way out. Assumes nothing.
 use Rattle.std.proofs.Common.{rules}
+use Rattle.words.proofs.Refusals.{err_some}
 use Rattle.listing.proofs.Stepping.{seek_one, seek_place, seek_again, seek_asks, seek_open}
 use Rattle.listing.proofs.least_value.Goals as goal
 
@@ -12,11 +13,8 @@ echo-requires c = (search (rules, seek_place), search rules)
 pub returns-then-repeats : goal.returns-then-repeats
 returns-then-repeats c = search (rules, seek_again)
 
-pub returns-then-number_of-eq-DONE : goal.returns-then-number_of-eq-DONE
-returns-then-number_of-eq-DONE c = search rules
-
 pub least_open-requires : goal.least_open-requires
-least_open-requires c = (search rules, search (rules, seek_asks))
+least_open-requires c = (search rules, search (rules, seek_asks, err_some))
 
 pub returns : goal.returns
-returns c = search (rules, seek_open)
+returns c = search (rules, seek_open, err_some)

@@ -10,7 +10,7 @@ pub put_echo-requires : goal.put_echo-requires
 put_echo-requires c = (search rules, search rules, search (rules, raise_small))
 
 pub fill-requires : goal.fill-requires
-fill-requires c = (search rules, search rules, search rules, search (rules, raise_passes))
+fill-requires c = (search rules, search rules, search (rules, raise_passes))
 
 pub returns : goal.returns
 returns c = search (rules, raise_done)
