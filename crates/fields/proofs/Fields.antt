@@ -1,13 +1,19 @@
 -- Numbers between tabs, written and counted, in the code's terms. Assumes nothing.
-use mathlib.Core.Path.{◌≡◌, sym, ap, subst, ◌∙◌}
+use mathlib.Core.Path.{◌≡◌, refl, sym, ap, subst, ◌∙◌}
 use mathlib.Core.List.{List, [], ◌∷◌, ◌++◌}
 use Prim.Native.Nat.{ℕ, ◌+◌, ◌-◌, ◌/◌, ◌%◌, ◌^◌, ◌≤◌, ◌<◌}
 use native.Mathlib.Omega.{arith}
 use native.Mathlib.Numerals.{add-one}
 use lib.ListN.{length, get_or, drop, length-append, drop_of_length-le}
 use lib.Seq.{drop-cons}
+use mir.Syntax.{w16}
+use mir.Val.{Fits}
 use borrow.Rule.Slice.PartMut.{mid_of, put_mid}
-use Rattle.words.specs.Sheet.{decimal, fields, line}
+use Rattle.std.specs.List.{sum_by}
+use Rattle.std.proofs.lemmas.List.Sums.{sum_by-cons, sum_by-le}
+use Rattle.std.proofs.lemmas.List.Elements.{All-from_get_or}
+use Rattle.words.specs.Numbers.{limit}
+use Rattle.words.specs.Sheet.{decimal, fields}
 use Rattle.fields.specs.Writing.{Put, Begun}
 use Rattle.fields.proofs.Parts.{part_long, put_then, begun_room, begun_more, begun_last}
 use Rattle.words.proofs.Decimal.{decimal_small, decimal_more, decimal_long, decimal_some, decimal_width}
@@ -23,9 +29,6 @@ module _ (n : ℕ) (old : List ℕ) (room : length (decimal n) ≤ length old) w
   pub number_room : (mid : List ℕ) (k : ℕ) → 10 ≤ n → Put (decimal (n / 10)) old mid k → 0 < length (mid_of k (length mid - k) mid)
   number_room mid k h p = omega (arith, part_long k mid, decimal_long n h, p.count, p.long)
 
-pub number_falls : (n t : ℕ) → n ≡ t → 10 ≤ n → n / 10 < t
-number_falls n t e h = omega arith
-
 pub number_end : (n d r : ℕ) (old new : List ℕ) → n < 10 → d ≡ 48 + n → Put (d ∷ []) old new r → Put (decimal n) old new r
 number_end n d r old new h e p = subst (λ (t : List ℕ). Put t old new r) (ap (λ (m : ℕ). m ∷ []) e ∙ sym (decimal_small n h)) p
 
@@ -33,6 +36,7 @@ pub number_more : (n : ℕ) (old mid new : List ℕ) (k d j : ℕ) → 10 ≤ n 
     → Put (decimal n) old (put_mid k (length mid - k) mid new) (k + j)
 number_more n old mid new k d j h p e q = put_then (decimal (n / 10)) old mid k p (d ∷ []) (decimal n) new j q (decimal_more n h ∙ ap (λ (m : ℕ). decimal (n / 10) ++ (m ∷ [])) (sym e))
 
+-- its digits
 pub width_end : (n : ℕ) → n < 10 → 1 ≡ length (decimal n)
 width_end n h = sym (ap length (decimal_small n h))
 
@@ -69,17 +73,19 @@ module _ (l old mid : List ℕ) (i k : ℕ) (b : Begun (fields l) (fields (drop 
   pub numbers_done : (new : List ℕ) (j : ℕ) → length l ≤ i → Put (10 ∷ []) (mid_of k (length mid - k) mid) new j → Put (fields l) old (put_mid k (length mid - k) mid new) (k + j)
   numbers_done new j h q = begun_last (fields l) (10 ∷ []) old mid k (last h) new j q
 
--- the whole is what was counted and what is left
-pub count_none : (l : List ℕ) → length (fields l) ≡ 0 + length (fields (drop 0 l))
-count_none l = omega arith
+-- how long they are: a tab and the digits of each, and byte 10
+abbrev wide : ℕ → ℕ
+wide m = length (decimal m) + 1
 
-module _ (l : List ℕ) (i k : ℕ) (e : length (fields l) ≡ k + length (fields (drop i l))) where
-  pub count_more : (m w : ℕ) → i < length l → m ≡ get_or l i 0 → w ≡ length (decimal m) → length (fields l) ≡ k + 1 + w + length (fields (drop (i + 1) l))
-  count_more m w h z q = omega (arith, ap length (fields_at l i m h z), length-append (9 ∷ decimal m) (fields (drop (i + 1) l)))
+fields_sum : (l : List ℕ) → length (fields l) ≡ sum_by wide l + 1
+unfolding fields
+fields_sum [] = refl
+fields_sum (m ∷ l) = omega (arith, length-append (decimal m) (fields l), fields_sum l, sum_by-cons wide m l)
 
-  pub count_done : length l ≤ i → k + 1 ≡ length (fields l)
-  count_done h = omega (arith, ap length (fields_end l i h))
+module _ (l : List ℕ) (r : ℕ) (e : r ≡ sum_by (λ (m : ℕ). length (decimal m) + 1) l) where
+  pub numbers_long : r + 1 ≡ length (fields l)
+  numbers_long = omega (arith, fields_sum l)
 
-pub line_long : (w l : List ℕ) (r : ℕ) → r ≡ length (fields l) → length w + r ≡ length (line (record { word = w; numbers = l }))
-unfolding line
-line_long w l r h = omega (arith, length-append w (fields l))
+  -- a number of 16 bits has at most five digits
+  pub numbers_low : ((i : ℕ) → Fits w16 (get_or l i 0)) → length l ≤ limit → r + 1 < 90000
+  numbers_low h n = omega (arith, sum_by-le wide 6 l (All-from_get_or (λ (m : ℕ). wide m ≤ 6) l 0 (λ i q. omega (arith, decimal_width 4 (get_or l i 0) (omega (arith, (h i).fits))))))

@@ -1,13 +1,10 @@
 -- Texts put one behind the other, each into the part from the current end onward. Assumes nothing.
 use mathlib.Core.Path.{◌≡◌, refl, sym, ap, subst, ◌∙◌}
-use mathlib.Core.List.{List, [], ◌∷◌, ◌++◌, append_assoc, append-nil}
-use Prim.Native.Nat.{ℕ, suc, ◌+◌, ◌-◌, ◌^◌, ◌≤◌, ◌<◌}
+use mathlib.Core.List.{List, [], ◌++◌, append_assoc, append-nil}
+use Prim.Native.Nat.{ℕ, ◌+◌, ◌-◌, ◌≤◌}
 use native.Mathlib.Omega.{arith}
-use native.Mathlib.Numerals.{add-one}
-use lib.ListN.{get_or, length, take, drop, set, length-append, length-drop, length-set, drop_of_length-le}
-use lib.Seq.{set_split, take-suc, take-append_seam, drop-append_seam, drop-drop, take_all, length-take-le}
-use mir.Syntax.{w64}
-use mir.Val.{Fits}
+use lib.ListN.{length, take, drop, length-append, length-drop, drop_of_length-le}
+use lib.Seq.{take-append_seam, drop-append_seam, drop-drop, take_all, length-take-le}
 use borrow.Rule.Slice.PartMut.{mid_of, put_mid}
 use Rattle.fields.specs.Writing.{Put, Begun}
 
@@ -20,21 +17,6 @@ whole_is k l new = ap (λ (e : List ℕ). take k l ++ (new ++ e)) (drop_of_lengt
 
 pub part_long : (k : ℕ) (l : List ℕ) → length (mid_of k (length l - k) l) ≡ length l - k
 part_long k l = ap length (part_is k l) ∙ length-drop k l
-
--- the bytes of two texts together fit a number, since the buffer's do
-pub sum_fits : (k j : ℕ) (l : List ℕ) → length l < 2 ^ 64 → k ≤ length l → j ≤ length (mid_of k (length l - k) l) → Fits w64 (k + j)
-sum_fits k j l h p q = record { fits = omega (arith, part_long k l) }
-
--- what has room for two texts has room for the first
-pub head_room : (s t old : List ℕ) → length (s ++ t) ≤ length old → length s ≤ length old
-head_room s t old h = omega (arith, length-append s t)
-
-pub put_none : (old : List ℕ) → Put [] old old 0
-put_none old = record { count = refl; within = omega arith; long = refl; text = refl }
-
-pub put_byte : (b : ℕ) (l : List ℕ) → 0 < length l → Put (b ∷ []) l (set l 0 b) 1
-put_byte b [] h = absurd (omega arith)
-put_byte b (a ∷ l) h = record { count = refl; within = omega arith; long = refl; text = refl }
 
 module _ (s old mid : List ℕ) (k : ℕ) (p : Put s old mid k) where
   put_take : take k mid ≡ s
@@ -60,39 +42,8 @@ module _ (s old mid : List ℕ) (k : ℕ) (p : Put s old mid k) where
   pub put_room : (t whole : List ℕ) → length whole ≤ length old → whole ≡ s ++ t → length t ≤ length (mid_of k (length mid - k) mid)
   put_room t whole h e = omega (arith, part_long k mid, ap length e, length-append s t, p.count, p.long)
 
-  -- one byte more, written in place
-  put_one : (v : ℕ) (whole : List ℕ) → k < length old → whole ≡ s ++ (v ∷ []) → Put whole old (set mid k v) (k + 1)
-  put_one v whole h e = record {
-    count = omega (arith, p.count, length-append s (v ∷ []), ap length e);
-    within = omega arith;
-    long = length-set mid k v ∙ p.long;
-    text = set_split mid k v (omega (arith, p.long))
-        ∙ ap (λ (l : List ℕ). l ++ (v ∷ drop (suc k) mid)) put_take
-        ∙ ap (λ (l : List ℕ). s ++ (v ∷ l)) (behind ∙ sym (drop-drop 1 k mid) ∙ ap (drop 1) put_drop ∙ drop-drop 1 k old)
-        ∙ sym (append_assoc s (v ∷ []) (drop (k + 1) old)) ∙ ap (λ (l : List ℕ). l ++ drop (k + 1) old) (sym e);
-  }
-    where
-      behind : drop (suc k) mid ≡ drop (k + 1) mid
-      behind = let w : suc k ≡ k + 1 = omega arith in ap (λ (m : ℕ). drop m mid) w
-
--- a word, byte by byte
-pub word_more : (w old out : List ℕ) (i : ℕ) → Put (take i w) old out i → i < length w → length w ≤ length old → Put (take (i + 1) w) old (set out i (get_or w i 0)) (i + 1)
-word_more w old out i p h l = put_one (take i w) old out i p (get_or w i 0) (take (i + 1) w) (omega arith) (rw add-one (take-suc w i 0 h))
-
-pub word_done : (w old out : List ℕ) (i : ℕ) → Put (take i w) old out i → length w ≤ i → Put w old out i
-word_done w old out i p h = subst (λ (t : List ℕ). Put t old out i) (take_all i w h) p
-
 -- a text in many parts: what is left to come
-pub begun_none : (whole rest old : List ℕ) → whole ≡ rest → Begun whole rest old old 0
-begun_none whole rest old e = record { done = []; split = e; put = put_none old }
-
 module _ (whole rest old mid : List ℕ) (k : ℕ) (b : Begun whole rest old mid k) where
-  pub begun_in : k ≤ length mid
-  begun_in = omega (arith, b.put.within, b.put.long)
-
-  pub begun_long : length mid ≡ length old
-  begun_long = b.put.long
-
   -- the next part t: its room, and what is left behind it
   pub begun_room : (t behind : List ℕ) → rest ≡ t ++ behind → length whole ≤ length old → length t ≤ length (mid_of k (length mid - k) mid)
   begun_room t behind e h = omega (arith, part_long k mid, b.put.count, b.put.long, ap length b.split, length-append b.done rest, ap length e, length-append t behind)

@@ -1,15 +1,12 @@
 -- The periods along a chain, written and counted, in the code's terms. Assumes nothing.
 use mathlib.Core.Path.{◌≡◌, refl, sym, ap, subst, ◌∙◌}
 use mathlib.Core.List.{List, [], ◌∷◌, ◌++◌}
-use Prim.Native.Nat.{ℕ, zero, suc, ◌+◌, ◌-◌, ◌*◌, ◌≤◌, ◌<◌}
+use Prim.Native.Nat.{ℕ, zero, suc, ◌+◌, ◌-◌, ◌≤◌, ◌<◌}
 use native.Mathlib.Omega.{arith}
-use lib.ListN.{length, length-append}
-use mir.Syntax.{w64}
-use mir.Val.{Fits}
+use lib.ListN.{length, get_or, length-append}
 use borrow.Author.Tests.{lt-ltb}
 use Rattle.words.specs.Lists.{at, each, keep}
 use Rattle.words.specs.Rows.{Small}
-use Rattle.words.specs.Numbers.{limit}
 use Rattle.words.specs.Sheet.{decimal, fields, line, word_periods}
 use Rattle.words.proofs.Rows.{chain_zero, chain_suc}
 use Rattle.fields.specs.Writing.{Put}
@@ -64,10 +61,20 @@ walk_none e b z = ap (λ (k : ℕ). fields (periods_along (at e) (length e) k)) 
 pub walk_end : (e : List ℕ) (b : ℕ) (old new : List ℕ) (r : ℕ) → b ≡ 0 → Put (10 ∷ []) old new r → Put (fields (periods_along (at e) (length e) b)) old new r
 walk_end e b old new r z p = subst (λ (t : List ℕ). Put t old new r) (sym (walk_none e b z)) p
 
+-- the line of the periods
+pub periods_split : (e : List ℕ) (b : ℕ) → b ≡ at e (length e) → line (periods_line e) ≡ word_periods ++ fields (periods_along (at e) (length e) b)
+unfolding line periods_line periods_of
+periods_split e b z = ap (λ (k : ℕ). word_periods ++ fields (periods_along (at e) (length e) k)) (sym z)
+
 -- the last echo
-pub last_none : (e : List ℕ) → length e ≡ 0 → 0 ≡ at e (length e)
+pub at_last : (e : List ℕ) → at e (length e) ≡ get_or e (length e - 1) 0
 unfolding at
-last_none e z = sym (ap (at e) z)
+at_last e = go e (length e) refl
+  where
+    go : (e : List ℕ) (n : ℕ) → n ≡ length e → at e n ≡ get_or e (n - 1) 0
+    go [] zero z = refl
+    go (x ∷ e) zero z = absurd (omega arith)
+    go e (suc n) z = let y : n ≡ suc n - 1 = omega arith in ap (λ (k : ℕ). get_or e k 0) y
 
 pub last_low : (e : List ℕ) (r : ℕ) → Small (at e) (length e) → r ≡ at e (length e) → r ≤ length e
 unfolding at
@@ -77,10 +84,6 @@ last_low e r s z = go (length e) (omega arith) z
     go zero h z = omega arith
     go (suc n) h z = omega (arith, s.below n h)
 
-pub periods_split : (e : List ℕ) (b : ℕ) → b ≡ at e (length e) → line (periods_line e) ≡ word_periods ++ fields (periods_along (at e) (length e) b)
-unfolding line periods_line periods_of
-periods_split e b z = ap (λ (k : ℕ). word_periods ++ fields (periods_along (at e) (length e) k)) (sym z)
-
 -- how long they are
 pub walk_one : (e : List ℕ) (b : ℕ) → b ≡ 0 → 1 ≡ length (fields (periods_along (at e) (length e) b))
 walk_one e b z = sym (ap length (walk_none e b z))
@@ -89,14 +92,5 @@ module _ (e : List ℕ) (b : ℕ) (small : Small (at e) (length e)) (within : b 
   pub walk_count : w ≡ length (decimal (length e - b)) → r ≡ length (fields (periods_along (at e) (length e) c)) → r + w + 1 ≡ length (fields (periods_along (at e) (length e) b))
   walk_count y z = omega (arith, ap length (walk_split e b small within c d q), length-append (9 ∷ decimal (length e - b)) (fields (periods_along (at e) (length e) c)))
 
-  pub walk_low : r ≤ 21 * c + 1 → w ≤ 20 → r + w + 1 ≤ 21 * b + 1
-  walk_low h k = omega (arith, walk_falls e b small within b c refl q d)
-
-  pub walk_fits : length e ≤ limit → r ≤ 21 * c + 1 → w ≤ 20 → Fits w64 (r + w)
-  walk_fits h k l = record { fits = omega (arith, walk_falls e b small within b c refl q d) }
-
-  pub walk_fits_one : length e ≤ limit → r ≤ 21 * c + 1 → w ≤ 20 → Fits w64 (r + w + 1)
-  walk_fits_one h k l = record { fits = omega (arith, walk_falls e b small within b c refl q d) }
-
-pub periods_long : (e : List ℕ) (b r : ℕ) → b ≡ at e (length e) → r ≡ length (fields (periods_along (at e) (length e) b)) → 7 + r ≡ length (line (periods_line e))
-periods_long e b r z h = omega (arith, ap length (periods_split e b z), length-append word_periods (fields (periods_along (at e) (length e) b)))
+-- what counting along the chain needs
+pub ruleset walk_counts = (walk_falls, walk_in, walk_one, walk_count)

@@ -1,5 +1,5 @@
 -- The lines of a sheet from its tables. Assumes nothing: these are definitions.
-use Rattle.std.specs.Prelude.{List, [], ◌∷◌, ℕ, get_or}
+use Rattle.std.specs.Prelude.{List, [], ◌∷◌, ℕ}
 use Rattle.words.specs.Sheet.{Line, word_sheet, word_echo, word_reach, word_periods, word_looks}
 use Rattle.rows.specs.Reach.{periods_of}
 
@@ -20,7 +20,3 @@ table_lines n A e r k =
 -- how many they are
 abbrev pub line_count : ℕ
 line_count = 5
-
--- line i of a list of lines, from 0; behind its end one that has no word and no numbers
-unfoldable pub nth : List Line → ℕ → Line
-nth l i = get_or l i (record { word = []; numbers = [] })

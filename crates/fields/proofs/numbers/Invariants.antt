@@ -1,12 +1,8 @@
--- `numbers`. The invariant: the numbers before i are put, those from i on are left. Assumes nothing.
-use Prim.Native.Nat.{◌-◌, ◌≤◌}
-use lib.ListN.{length, drop}
+-- `numbers`. The invariant: the numbers before this one are put, those from it on are left. Assumes nothing.
+use lib.ListN.{drop}
 use Rattle.words.specs.Sheet.{fields}
 use Rattle.fields.specs.Writing.{Begun}
 use Rattle.fields.proofs.numbers.Given as goal
 
-abbrev pub invariant-loop-i : goal.invariant-loop-i
-invariant-loop-i l = (l.i ≤ length l.l) × Begun (fields l.l) (fields (drop l.i l.l)) l.initial.out l.out l.at
-
-abbrev pub decreases-loop-i : goal.decreases-loop-i
-decreases-loop-i l = length l.l - l.i
+abbrev pub invariant-loop-number : goal.invariant-loop-number
+invariant-loop-number l = Begun (fields l.list) (fields (drop l.number-index l.list)) l.initial.out l.out l.at

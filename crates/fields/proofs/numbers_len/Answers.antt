@@ -1,13 +1,11 @@
--- `numbers_len`. The invariant: the whole is what was counted and what is left. Assumes nothing.
-use Rattle.std.proofs.Common.{rules}
-use Rattle.fields.proofs.Fields.{count_none, count_more, count_done}
+-- `numbers_len`. Assumes nothing.
+use Rattle.std.proofs.Common.{arith, rules}
+use Rattle.std.proofs.iter.runs.Made.{chains}
+use Rattle.fields.proofs.Fields.{numbers_long, numbers_low}
 use Rattle.fields.proofs.numbers_len.Goals as goal
 
-pub loop-i-init : goal.loop-i-init
-loop-i-init c = (search rules, search rules, search (rules, count_none))
-
-pub loop-i-preserved : goal.loop-i-preserved
-loop-i-preserved c = (search rules, search rules, search (rules, count_more))
+pub overflow_add-result : goal.overflow_add-result
+overflow_add-result c = record { fits = omega (arith, numbers_low c.args.list.now c.sum-widths.result (search (rules, chains)) c.type_inv.list (omega arith)) }
 
 pub returns : goal.returns
-returns c = (search (rules, count_done), search rules)
+returns c = (search (rules, chains, numbers_long), numbers_low c.args.list.now c.sum-widths.result (search (rules, chains)) c.type_inv.list (omega arith))

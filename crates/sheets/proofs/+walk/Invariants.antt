@@ -1,5 +1,0 @@
--- `walk`: each echo is below its place. Assumes nothing.
-use Rattle.sheets.proofs.+walk.Given as goal
-
-abbrev pub decreases-walk : goal.decreases-walk
-decreases-walk l = l.b
