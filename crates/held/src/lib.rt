@@ -1,19 +1,22 @@
 // Work on an array that a table holds, where no check refuses: judging it, its least row, the first array, the next.
-#![tactic(auto)]
+// Stays: that no check refuses is asked as a fact of the arguments: `rebuild` and `first` have it from `lent`, `next` from `sizes`, and a type for it would be
+// built there only to be taken apart here.
+#![tactic(auto, using(crate::proofs::Stepping::held_steps))]
 
 ghost use Rattle.std.specs.Prelude.{◌≡◌, ◌≤◌, length};
 ghost use Rattle.words.specs.Numbers.{limit, lent, sizes, DONE as done};
 ghost use Rattle.words.specs.Stand.{verdict};
 ghost use Rattle.words.specs.Listing.{First};
 ghost use Rattle.words.specs.Outcomes.{Rebuilds, Steps};
+ghost use Rattle.words.specs.Refusals.{outcome};
 ghost use Rattle.arrays.specs.Steps.{Holds};
 
-use words::{Answer, DONE, LAST};
+use words::{Reason, Refusal};
 
-// Number and first bad place of the array.
-pub fn judge(a: usize, e: &[u16]) -> Answer
+// Judges the array.
+pub fn judge(a: usize, e: &[u16]) -> Result<(), Refusal>
     requires { length e.now ≤ limit }
-    ensures { (result.number, result.place) ≡ verdict a e.now }
+    ensures { outcome result ≡ verdict a e.now }
 {
     let mut t = [0u16; 4096];
     arrays::hold(e, &mut t);
@@ -21,22 +24,19 @@ pub fn judge(a: usize, e: &[u16]) -> Answer
 }
 
 // Judges the array that the table holds and hands back the least row.
-fn rebuild_in(a: usize, e: &[u16], row: &mut [u8], t: &[u16; 4096]) -> Answer
-    requires { ((lent a (length e.now) (length row.old)).0 ≡ done) × Holds t.now e.now × (length t.now ≡ limit) }
-    ensures { Rebuilds a e.now row.old (result.number, result.place) row.new }
+fn rebuild_in(a: usize, e: &[u16], row: &mut [u8], t: &[u16; 4096]) -> Result<(), Refusal>
+    requires { ((lent a (length e.now) (length row.old)).0 ≡ done) × Holds t.now e.now }
+    ensures { Rebuilds a e.now row.old (outcome result) row.new }
 {
-    let v = judging::judge(a, t, row.len());
-    if v.number != DONE {
-        return v;
-    }
+    judging::judge(a, t, row.len())?;
     rebuilding::rebuild(a, t, row);
-    v
+    Ok(())
 }
 
 // Judges the array and hands back the least row that has it.
-pub fn rebuild(a: usize, e: &[u16], row: &mut [u8]) -> Answer
+pub fn rebuild(a: usize, e: &[u16], row: &mut [u8]) -> Result<(), Refusal>
     requires { (lent a (length e.now) (length row.old)).0 ≡ done }
-    ensures { Rebuilds a e.now row.old (result.number, result.place) row.new }
+    ensures { Rebuilds a e.now row.old (outcome result) row.new }
 {
     let mut t = [0u16; 4096];
     arrays::hold(e, &mut t);
@@ -44,6 +44,7 @@ pub fn rebuild(a: usize, e: &[u16], row: &mut [u8]) -> Answer
 }
 
 // Writes the least standing array of n places into the buffer.
+// Stays: a public function's inputs: n, and a buffer of n.
 pub fn first(a: usize, n: usize, out: &mut [u16])
     requires { (lent a n (length out.old)).0 ≡ done }
     ensures { First a n out.new }
@@ -54,32 +55,23 @@ pub fn first(a: usize, n: usize, out: &mut [u16])
 }
 
 // Steps from the array, which the table holds.
-fn next_in(a: usize, e: &mut [u16], t: &mut [u16; 4096]) -> Answer
-    requires { ((sizes a (length e.old)).0 ≡ done) × Holds t.old e.old × (length t.old ≡ limit) }
-    ensures { Steps a e.old (result.number, result.place) e.new }
+fn next_in(a: usize, e: &mut [u16], t: &mut [u16; 4096]) -> Result<(), Refusal>
+    requires { ((sizes a (length e.old)).0 ≡ done) × Holds t.old e.old }
+    ensures { Steps a e.old (outcome result) e.new }
 {
-    let verdict = judging::judge(a, t, e.len());
-    if verdict.number != DONE {
-        return verdict;
-    }
+    judging::judge(a, t, e.len())?;
     if listing::next(a, t, e.len()) {
         arrays::give(t, e);
-        Answer {
-            number: DONE,
-            place: 0,
-        }
+        Ok(())
     } else {
-        Answer {
-            number: LAST,
-            place: 0,
-        }
+        Err(Refusal::from(Reason::Last))
     }
 }
 
 // Replaces the array by the least standing one of its length that is greater.
-pub fn next(a: usize, e: &mut [u16]) -> Answer
+pub fn next(a: usize, e: &mut [u16]) -> Result<(), Refusal>
     requires { (sizes a (length e.old)).0 ≡ done }
-    ensures { Steps a e.old (result.number, result.place) e.new }
+    ensures { Steps a e.old (outcome result) e.new }
 {
     let mut t = [0u16; 4096];
     arrays::hold(e, &mut t);

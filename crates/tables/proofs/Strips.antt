@@ -80,3 +80,6 @@ closing_long x p = part_long x p (length x - closed x) (closed x) (omega (arith,
 pub joining_long : (x y : List ℕ) (p : ℕ × ℕ) → length (joining x y p).0 ≡ joint x y
 unfolding joining
 joining_long x y p = part_long y p 0 (joint x y) (omega (arith, joint_fits x y))
+
+-- what the strips' lengths need
+pub ruleset strip_steps = (closed_none, closed_over, closed_by, joint_none, joint_right, joint_left, joint_by, joint_fits_left, joint_fits_right)
