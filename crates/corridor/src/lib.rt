@@ -1,14 +1,19 @@
-// Claybobbin: every entry open to callers, and nothing else is open. Each takes every input and refuses what is bad by number and place.
-#![tactic(auto)]
+// Claybobbin: every entry open to callers, the types of their answers, and nothing else. Each entry takes every input and refuses what is bad by number and place.
+// Stays: an entry answers by number and place, as other programs are written to read it; so a refusal is turned into an answer where it is met. A `?` would
+// take a second function beside each entry, with its contract once more; a `map` on the check, a closure that says in a `requires` of its own what the check
+// leaves.
+#![tactic(auto, using(crate::proofs::Entries::entry_steps), unfolding(words::specs::Outcomes::judge_outcome))]
 
 ghost use Rattle.std.specs.Prelude.{◌≡◌};
+ghost use Rattle.words.specs.Refusals.{refused, outcome};
 ghost use Rattle.words.specs.Strips.{closing as closing_of, joining as joining_of};
 ghost use Rattle.words.specs.Outcomes.{echoes_outcome, reach_outcome, looks_outcome, sheet_outcome, guess_outcome, judge_outcome, count_outcome, Rebuilds, Starts, Steps};
 
 pub use words::Answer;
-use words::{COUNT_LIMIT, DIFFERS, DONE, LIMIT};
+use words::{COUNT_LIMIT, DONE, LIMIT, Reason, Refusal};
 
 // An answer with a count, which is 0 beside every number but 0.
+// Stays: other programs read number, place and count by these names, as they read a length in `Written`: so neither is a Result, nor one type for both.
 #[derive(Clone, Copy)]
 pub struct Counted {
     pub number: u8,
@@ -16,35 +21,53 @@ pub struct Counted {
     pub count: u64,
 }
 
+impl From<Refusal> for Counted {
+    ghost from_gives = { λ r c. ((c.number, c.place) ≡ refused r) × (c.count ≡ 0) };
+
+    fn from(r: Refusal) -> Counted {
+        let answer = Answer::from(r);
+        Counted {
+            number: answer.number,
+            place: answer.place,
+            count: 0,
+        }
+    }
+}
+
+impl From<Counted> for Answer {
+    ghost from_gives = { λ c a. (a.number ≡ c.number) × (a.place ≡ c.place) };
+
+    fn from(c: Counted) -> Answer {
+        Answer {
+            number: c.number,
+            place: c.place,
+        }
+    }
+}
+
 // Writes the echoes of the row into out, which has as many entries. Numbers 1, 2, 3 and 4.
 pub fn echoes(a: usize, row: &[u8], out: &mut [u16]) -> Answer
     ensures { (result.number, result.place, out.new) ≡ echoes_outcome a row.now out.old }
 {
-    let answer = checks::row_and_slice(a, row, out.len());
-    if answer.number != DONE {
-        return answer;
+    if let Err(refusal) = checks::row_and_slice(a, row, out.len()) {
+        return Answer::from(refusal);
     }
     rows::echoes(row, out);
-    answer
+    Answer::DONE
 }
 
 // The looks of the row. Numbers 1, 2 and 4.
 pub fn looks(a: usize, row: &[u8]) -> Counted
     ensures { (result.number, result.place, result.count) ≡ looks_outcome a row.now }
 {
-    let seen = checks::whole_row(a, row);
-    if seen.number != DONE {
-        return Counted {
-            number: seen.number,
-            place: seen.place,
-            count: 0,
-        };
+    if let Err(refusal) = checks::whole_row(a, row) {
+        return Counted::from(refusal);
     }
-    let k = tables::looks_within(row);
+    let count = tables::looks_within(row) as u64;
     Counted {
-        number: seen.number,
-        place: seen.place,
-        count: k as u64,
+        number: DONE,
+        place: 0,
+        count,
     }
 }
 
@@ -69,37 +92,35 @@ pub fn joining<'l, 'r>(left: &'l [u8], right: &'r [u8]) -> &'r [u8]
 pub fn reach(a: usize, row: &[u8], out: &mut [u16]) -> Answer
     ensures { (result.number, result.place, out.new) ≡ reach_outcome a row.now out.old }
 {
-    let lent = checks::row_and_slice(a, row, out.len());
-    if lent.number != DONE {
-        return lent;
+    if let Err(refusal) = checks::row_and_slice(a, row, out.len()) {
+        return Answer::from(refusal);
     }
     reaches::reaches(row, out);
-    lent
+    Answer::DONE
 }
 
 // Judges the array: 0, or the number and place of the first echo that does not stand. Numbers 1, 2, 5, 6 and 7.
 pub fn judge(a: usize, e: &[u16]) -> Answer
     ensures { (result.number, result.place) ≡ judge_outcome a e.now }
 {
-    let r = checks::sizes(a, LIMIT, e.len());
-    if r.number != DONE {
-        return r;
+    if let Err(refusal) = checks::sizes(a, LIMIT, e.len()) {
+        return Answer::from(refusal);
     }
-    held::judge(a, e)
+    Answer::from(held::judge(a, e))
 }
 
 // Judges the array and hands back the least row that has it, in a buffer with as many entries. Numbers 1, 2, 3, 5, 6 and 7.
 pub fn rebuild(a: usize, e: &[u16], row: &mut [u8]) -> Answer
     ensures { Rebuilds a e.now row.old (result.number, result.place) row.new }
 {
-    let fits = checks::lent(a, e.len(), row.len());
-    if fits.number != DONE {
-        return fits;
+    if let Err(refusal) = checks::lent(a, e.len(), row.len()) {
+        return Answer::from(refusal);
     }
-    held::rebuild(a, e, row)
+    Answer::from(held::rebuild(a, e, row))
 }
 
 // An answer with a length, which is 0 beside every number but 0.
+// Stays: as `Counted`.
 #[derive(Clone, Copy)]
 pub struct Written {
     pub number: u8,
@@ -107,23 +128,44 @@ pub struct Written {
     pub length: usize,
 }
 
+impl From<Refusal> for Written {
+    ghost from_gives = { λ r w. ((w.number, w.place) ≡ refused r) × (w.length ≡ 0) };
+
+    fn from(r: Refusal) -> Written {
+        let answer = Answer::from(r);
+        Written {
+            number: answer.number,
+            place: answer.place,
+            length: 0,
+        }
+    }
+}
+
+impl From<Written> for Answer {
+    ghost from_gives = { λ w a. (a.number ≡ w.number) × (a.place ≡ w.place) };
+
+    fn from(w: Written) -> Answer {
+        Answer {
+            number: w.number,
+            place: w.place,
+        }
+    }
+}
+
 // Writes the sheet of the row into the buffer; the bytes behind it stay. Numbers 1, 2, 4 and 8.
 pub fn sheet(a: usize, row: &[u8], buf: &mut [u8]) -> Written
     ensures { (result.number, result.place, result.length, buf.new) ≡ sheet_outcome a row.now buf.old }
 {
-    let asked = checks::whole_row(a, row);
-    if asked.number != DONE {
-        return Written {
-            number: asked.number,
-            place: asked.place,
-            length: 0,
-        };
+    if let Err(refusal) = checks::whole_row(a, row) {
+        return Written::from(refusal);
     }
-    let w = tables::sheet_within(a, row, buf);
-    Written {
-        number: w.number,
-        place: 0,
-        length: w.length,
+    match tables::sheet_within(a, row, buf) {
+        Ok(length) => Written {
+            number: DONE,
+            place: 0,
+            length,
+        },
+        Err(reason) => Written::from(Refusal::from(reason)),
     }
 }
 
@@ -131,30 +173,30 @@ pub fn sheet(a: usize, row: &[u8], buf: &mut [u8]) -> Written
 pub fn guess(a: usize, hidden: &[u8], guess: &[u8]) -> Answer
     ensures { (result.number, result.place) ≡ guess_outcome a hidden.now guess.now }
 {
-    let pair = checks::two_rows(a, hidden, guess);
-    if pair.number != DONE {
-        return pair;
+    if let Err(refusal) = checks::two_rows(a, hidden, guess) {
+        return Answer::from(refusal);
     }
-    checks::named(DIFFERS, tables::difference_within(hidden, guess))
+    match tables::difference_within(hidden, guess) {
+        None => Answer::DONE,
+        Some(place) => Answer::from(Refusal {
+            reason: Reason::Differs,
+            place,
+        }),
+    }
 }
 
 // How many arrays of n places stand over a letters. Numbers 1 and 2, where 2 is for n over 20.
 pub fn count(a: usize, n: usize) -> Counted
     ensures { (result.number, result.place, result.count) ≡ count_outcome a n }
 {
-    let size = checks::sizes(a, COUNT_LIMIT, n);
-    if size.number != DONE {
-        return Counted {
-            number: size.number,
-            place: size.place,
-            count: 0,
-        };
+    if let Err(refusal) = checks::sizes(a, COUNT_LIMIT, n) {
+        return Counted::from(refusal);
     }
-    let k = counting::count(a, n);
+    let count = counting::count(a, n);
     Counted {
-        number: size.number,
-        place: size.place,
-        count: k,
+        number: DONE,
+        place: 0,
+        count,
     }
 }
 
@@ -162,25 +204,19 @@ pub fn count(a: usize, n: usize) -> Counted
 pub fn first(a: usize, n: usize, out: &mut [u16]) -> Answer
     ensures { Starts a n out.old (result.number, result.place) out.new }
 {
-    let room = checks::lent(a, n, out.len());
-    if room.number != DONE {
-        return room;
+    if let Err(refusal) = checks::lent(a, n, out.len()) {
+        return Answer::from(refusal);
     }
     held::first(a, n, out);
-    Answer {
-        number: DONE,
-        place: 0,
-    }
+    Answer::DONE
 }
 
 // Replaces the array by the least standing one of its length that is greater. Numbers 1, 2, 5, 6, 7 and 9.
 pub fn next(a: usize, e: &mut [u16]) -> Answer
     ensures { Steps a e.old (result.number, result.place) e.new }
 {
-    let n = e.len();
-    let r = checks::sizes(a, LIMIT, n);
-    if r.number != DONE {
-        return r;
+    if let Err(refusal) = checks::sizes(a, LIMIT, e.len()) {
+        return Answer::from(refusal);
     }
-    held::next(a, e)
+    Answer::from(held::next(a, e))
 }

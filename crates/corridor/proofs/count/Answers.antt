@@ -1,17 +1,14 @@
 -- `corridor::count`. Assumes nothing.
 use Rattle.std.proofs.Common.{rules}
 use Rattle.words.specs.Outcomes.{count_outcome}
-use Rattle.words.proofs.Checks.{counted_none, counted_some}
-use Rattle.corridor.proofs.Entries.{count_within}
+use Rattle.words.proofs.Checks.{counted_some}
+use Rattle.corridor.proofs.Entries.{count_refused}
 use Rattle.corridor.proofs.count.Goals as goal
 
-pub returns-then-size-ne-DONE : goal.returns-then-size-ne-DONE
+pub returns-in-Err : goal.returns-in-Err
 unfolding count_outcome
-returns-then-size-ne-DONE c = search (rules, counted_none)
-
-pub count-k-requires : goal.count-k-requires
-count-k-requires c = search (rules, count_within)
+returns-in-Err c = search (rules, count_refused, c.in-Err.ensures)
 
 pub returns : goal.returns
 unfolding count_outcome
-returns c = search (rules, counted_some)
+returns c = search (rules, counted_some, c.in_default.ensures)

@@ -1,13 +1,13 @@
 -- `corridor::sheet`. Assumes nothing.
 use Rattle.std.proofs.Common.{rules}
-use Rattle.corridor.proofs.Entries.{row_within, sheet_refused, sheet_letters, sheet_told}
+use Rattle.corridor.proofs.Entries.{sheet_none, sheet_done, sheet_over}
 use Rattle.corridor.proofs.sheet.Goals as goal
 
-pub returns-then-asked-ne-DONE : goal.returns-then-asked-ne-DONE
-returns-then-asked-ne-DONE c = search (rules, sheet_refused)
+pub returns-in-Err : goal.returns-in-Err
+returns-in-Err c = search (rules, sheet_none, c.in-Err.ensures)
 
-pub sheet_within-w-requires : goal.sheet_within-w-requires
-sheet_within-w-requires c = (search (rules, sheet_letters), search (rules, row_within))
+pub returns-in-Ok : goal.returns-in-Ok
+returns-in-Ok c = search (rules, sheet_done, c.in_default.ensures, c.in-Ok.ensures)
 
-pub returns : goal.returns
-returns c = search (rules, sheet_told)
+pub returns-in-Err-sheet_within : goal.returns-in-Err-sheet_within
+returns-in-Err-sheet_within c = search (rules, sheet_over, c.in_default.ensures, c.in-Err-sheet_within.ensures)
