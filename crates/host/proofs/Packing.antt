@@ -1,5 +1,5 @@
 -- A packed answer is read back in one way: by remainder and quotient, as the readers of include/claybobbin.h do. Assumes nothing.
-use mathlib.Core.Path.{◌≡◌, ap}
+use mathlib.Core.Path.{◌≡◌, ap, ◌∙◌}
 use mathlib.Core.List.{List, [], ◌∷◌}
 use Prim.Native.Nat.{ℕ, ◌+◌, ◌*◌, ◌%◌, ◌/◌, ◌≤◌, ◌<◌}
 use native.Mathlib.Omega.{arith}
@@ -179,13 +179,18 @@ module _ (r n p : ℕ) where
   unfolding packed_buffer
   buffer_packed o new e q = rw (← e) (rw q)
 
-  pub value_packed : (o : ℕ × ℕ × ℕ) (k : ℕ) → (n, p, k) ≡ o → r ≡ packing (n, p) k → r ≡ packed_value o
-  unfolding packed_value
-  value_packed o k e q = rw (← e) q
+  -- a value beside them: m and q are the number and place of the answer that is packed
+  module _ (m q k : ℕ) (number : m ≡ n) (place : q ≡ p) (is : r ≡ packing (m, q) k) where
+    told : r ≡ packing (n, p) k
+    told = is ∙ ap (λ (a : ℕ). packing (a, q) k) number ∙ ap (λ (b : ℕ). packing (n, b) k) place
 
-  pub both_packed : (o : ℕ × ℕ × ℕ × List ℕ) (k : ℕ) (new : List ℕ) → (n, p, k, new) ≡ o → r ≡ packing (n, p) k → (r, new) ≡ packed_both o
-  unfolding packed_both
-  both_packed o k new e q = rw (← e) (rw q)
+    pub value_packed : (o : ℕ × ℕ × ℕ) → (n, p, k) ≡ o → r ≡ packed_value o
+    unfolding packed_value
+    value_packed o e = rw (← e) told
+
+    pub both_packed : (o : ℕ × ℕ × ℕ × List ℕ) (new : List ℕ) → (n, p, k, new) ≡ o → (r, new) ≡ packed_both o
+    unfolding packed_both
+    both_packed o new e = rw (← e) (rw told)
 
   pub answer_packed : (s : ℕ × ℕ) → (n, p) ≡ s → r ≡ packing (n, p) 0 → r ≡ packing s 0
   answer_packed s e q = rw (← e) q
@@ -194,9 +199,9 @@ module _ (A n k p c : ℕ) (counts : (k, p, c) ≡ count_outcome A n) where
   pub count_product : Fits w64 (4 * c)
   count_product = omega (arith, count_bounds A n, ap (λ (r : ℕ × ℕ × ℕ). r.2) counts)
 
-  pub count_sum : Fits w64 (k + 4 * c)
-  count_sum = omega (arith, count_bounds A n, ap (λ (r : ℕ × ℕ × ℕ). r.0) counts, ap (λ (r : ℕ × ℕ × ℕ). r.2) counts)
+  pub count_sum : (f : ℕ) → f ≡ k → Fits w64 (f + 4 * c)
+  count_sum f e = omega (arith, e, count_bounds A n, ap (λ (r : ℕ × ℕ × ℕ). r.0) counts, ap (λ (r : ℕ × ℕ × ℕ). r.2) counts)
 
-  pub count_packed : k + 4 * c ≡ host_count_outcome A n
+  pub count_packed : (f : ℕ) → f ≡ k → f + 4 * c ≡ host_count_outcome A n
   unfolding host_count_outcome
-  count_packed = ap (λ (r : ℕ × ℕ × ℕ). r.0 + 4 * r.2) counts
+  count_packed f e = ap (λ (m : ℕ). m + 4 * c) e ∙ ap (λ (r : ℕ × ℕ × ℕ). r.0 + 4 * r.2) counts

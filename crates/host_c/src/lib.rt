@@ -1,4 +1,5 @@
 // What a game written in C calls: each function of `host` under its C name, with the same clause.
+// Stays: C calls each by its name, and a crate is a library or a static library; so each stands here once more.
 #![tactic(auto)]
 
 ghost use Rattle.std.specs.Prelude.{◌≡◌};

@@ -1,5 +1,4 @@
 -- `host::decode`: the first i echoes are in the table. Assumes nothing.
-use Prim.Native.Nat.{◌-◌}
 use Rattle.words.specs.Numbers.{limit}
 use Rattle.words.specs.Outcomes.{decoded}
 use Rattle.arrays.proofs.Tables.{Copied}
@@ -7,6 +6,3 @@ use Rattle.host.proofs.decode.Given as goal
 
 abbrev pub invariant-loop-i : goal.invariant-loop-i
 invariant-loop-i l = Copied (decoded l.bytes) l.t limit l.i
-
-abbrev pub decreases-loop-i : goal.decreases-loop-i
-decreases-loop-i l = l.n - l.i
