@@ -6,7 +6,7 @@ use Prim.Native.Nat.{ℕ, suc, ◌+◌, ◌≤◌, ◌<◌, min}
 use native.Mathlib.Omega.{arith}
 use lib.Dec.{leb, eqb}
 use lib.ListN.{length, length-append}
-use borrow.Author.Tests.{eq-eqb, ne_eqb, le-leb, lt-leb, leb-true}
+use borrow.Author.Tests.{eq-eqb, ne_eqb, le-leb, leb-true}
 use Rattle.words.specs.Lists.{both, every}
 use Rattle.words.specs.Numbers.{DONE, ALPHABET}
 use Rattle.words.proofs.Lists.{which, either, both_true, both_left, both_right, both_out}
@@ -74,19 +74,6 @@ pub every_snoc : (p : ℕ → Bool) (l : List ℕ) (b : ℕ) → every p (l ++ (
 unfolding every both
 every_snoc p [] b = either (which (p b)) (λ t. rw t) (λ f. rw f)
 every_snoc p (x ∷ l) b = either (which (p x)) (λ t. rw t (every_snoc p l b)) (λ f. rw f)
-
--- a byte below the digits, one behind them, one of them
-pub digit_below : (b : ℕ) → b < 48 → false ≡ digit b
-unfolding digit
-digit_below b h = sym (both_left (leb 48 b) (leb b 57) (lt-leb 48 b h))
-
-pub digit_rest : (b : ℕ) (t : Bool) → 48 ≤ b → t ≡ leb b 57 → t ≡ digit b
-unfolding digit both
-digit_rest b t h e = e ∙ sym (rw (le-leb 48 b h))
-
-pub digit_low : (b : ℕ) (t : Bool) → t ≡ digit b → t ≡ true → 48 ≤ b
-unfolding digit
-digit_low b t e h = leb-true 48 b (both_out (leb 48 b) (leb b 57) (sym e ∙ h)).0
 
 -- the figures of a field with one more byte
 pub figures_nil : figures [] ≡ 0

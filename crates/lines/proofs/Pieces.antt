@@ -1,88 +1,71 @@
 -- What the state holds one byte and one piece further: a lemma for each way out of the code. Assumes nothing.
 use mathlib.Core.Path.{◌≡◌, refl, sym, ap, subst, ◌∙◌}
 use mathlib.Core.Bool.{Bool, true, false}
-use mathlib.Core.List.{List, [], ◌∷◌, ◌++◌, append-nil, append_assoc}
+use mathlib.Core.List.{List, [], ◌∷◌, ◌++◌}
 use Prim.Native.Nat.{ℕ, ◌+◌, ◌-◌, ◌*◌, ◌≤◌, ◌<◌, min}
 use native.Mathlib.Omega.{arith}
-use native.Mathlib.Numerals.{add-one}
-use lib.Dec.{ltb}
-use lib.ListN.{length, get_or, set, take, length-append, length-set}
-use lib.Seq.{take-nil, take_all, take-append-le, take-suc, take-suc-set}
-use borrow.Author.Tests.{ltb-true, ltb-false, lt-ltb, le-ltb}
-use Rattle.words.specs.Numbers.{DONE, ALPHABET}
+use lib.Dec.{leb, eqb, ltb}
+use lib.ListN.{length, length-append}
+use lib.Seq.{take-nil}
+use borrow.Author.Tests.{eqb-true, eqb-false, ltb-true, ltb-false, lt-ltb, le-ltb}
+use Rattle.std.specs.Char.{is_ascii_digit}
+use Rattle.std.specs.Prelude.{Result, Ok, Err}
+use Rattle.words.specs.Numbers.{ALPHABET}
 use Rattle.words.specs.Sheet.{value}
+use Rattle.words.specs.declared.Reason.{Reason}
+use Rattle.words.specs.declared.Reason.TheVariants.{Alphabet}
 use Rattle.lines.specs.Line.{TAB, END, until, past, count, line_of, digit, meaning}
-use Rattle.lines.specs.Taking.{figures, Shown, Stored, Taken, gave, Read, Starts, Counts, Grows, Stores, Takes, Reads, Means, Tells}
-use Rattle.lines.specs.declared.Figures.{Figures}
+use Rattle.lines.specs.Taking.{digit_count, field_value, tab_count, told_of, Shown, Stored, Taken, gave, Read, Starts, Counts, Grows, Stores, Takes, Reads, Means, Tells}
+use Rattle.lines.specs.declared.Field.{Field}
+use Rattle.lines.specs.declared.Field.TheVariants.{Empty, One, Two, NoNumber}
+use Rattle.lines.specs.declared.Tabs.{Tabs}
+use Rattle.lines.specs.declared.Tabs.TheVariants.{NoTab, OneTab, TooMany}
 use Rattle.lines.specs.declared.State.{State}
 use Rattle.lines.specs.declared.Line.{Line}
-use Rattle.words.proofs.Lists.{not_both}
+use Rattle.words.proofs.Lists.{which, either, not_both}
+use Rattle.words.specs.Lists.{both}
 use Rattle.words.proofs.Decimal.{value_snoc}
 use Rattle.lines.proofs.Lines.{count_more, count_one, count_other, until_met, until_here, until_snoc, past_met, past_open, figures_nil, figures_digit, figures_many, figures_other, numeral_yes, numeral_out, meaning_good, meaning_tabs, meaning_field}
 
+-- a digit, as the code tests it
+digit_is : (b : ℕ) → digit b ≡ is_ascii_digit b
+unfolding digit both
+digit_is b = either (which (leb 48 b)) (λ t. rw t) (λ f. rw f)
+
 -- one byte of the field
-module _ (b : ℕ) (f : Figures) where
-  pub grows_digit : (t : Bool) → f.digits < 2 → t ≡ digit b → t ≡ true → Grows b f (record { digits = f.digits + 1; tens = f.ones; ones = b - 48 })
-  grows_digit t h e d = record {
+module _ (b : ℕ) (t : Bool) (e : t ≡ is_ascii_digit b) where
+  grows_digit : t ≡ true → (f g : Field) → digit_count f < 2 → digit_count g ≡ digit_count f + 1 → field_value g ≡ 10 * field_value f + (b - 48) → Grows b f g
+  grows_digit y f g h d w = record {
     more = λ l s. record {
-      digits = omega (arith, s.digits, figures_digit l b (omega (arith, s.digits)) (sym e ∙ d));
-      whole = λ k. omega (arith, value_snoc 0 l b, s.whole (omega arith), s.short h);
-      short = λ k. s.empty (omega arith);
-      empty = λ k. absurd (omega arith);
+      digits = omega (arith, s.digits, figures_digit l b (omega (arith, s.digits)) (digit_is b ∙ sym e ∙ y));
+      whole = λ k. omega (arith, value_snoc 0 l b, s.whole (omega arith));
     };
   }
 
-  no_number : ((l : List ℕ) → Shown l f → figures (l ++ (b ∷ [])) ≡ 3) → Grows b f (record { digits = 3; tens = f.tens; ones = f.ones })
-  no_number h = record {
-    more = λ l s. record {
-      digits = sym (h l s);
-      whole = λ k. absurd (omega arith);
-      short = λ k. absurd (omega arith);
-      empty = λ k. absurd (omega arith);
-    };
-  }
+  pub grows_first : t ≡ true → (f : Field) → f ≡ Empty → Grows b f (One (b - 48))
+  grows_first y f h = rw h (grows_digit y Empty (One (b - 48)) (omega arith) refl (omega arith))
 
-  pub grows_other : (t : Bool) → t ≡ digit b → t ≡ false → Grows b f (record { digits = 3; tens = f.tens; ones = f.ones })
-  grows_other t e d = no_number (λ l s. figures_other l b (sym e ∙ d))
+  pub grows_second : t ≡ true → (f : Field) (o : ℕ) → f ≡ One o → Grows b f (Two o (b - 48))
+  grows_second y f o h = rw h (grows_digit y (One o) (Two o (b - 48)) (omega arith) refl refl)
 
-  pub grows_many : 2 ≤ f.digits → Grows b f (record { digits = 3; tens = f.tens; ones = f.ones })
-  grows_many h = no_number (λ l s. figures_many l b (omega (arith, s.digits)))
+  pub grows_other : t ≡ false → (f : Field) → Grows b f NoNumber
+  grows_other n f = record { more = λ l s. record { digits = sym (figures_other l b (digit_is b ∙ sym e ∙ n)); whole = λ k. absurd (omega arith) } }
 
--- one card of the row
-pub stores_room : (b n : ℕ) (buf : List ℕ) → n < length buf → Stores b n buf (n + 1) (set buf n b)
-stores_room b n buf h = record { more = λ x s. stored x s }
-  where
-    stored : (x : List ℕ) → Stored x n buf → Stored (x ++ (b ∷ [])) (n + 1) (set buf n b)
-    stored x s =
-        let l = length-append x (b ∷ []) in
-        let w = length-set buf n b in
-        let c = s.count in
-        let p : take (n + 1) (set buf n b) ≡ take n buf ++ (b ∷ []) = rw (add-one n) (take-suc-set buf n b h) in
-        record {
-          count = omega arith;
-          same = p ∙ ap (λ (k : List ℕ). k ++ (b ∷ [])) (s.same ∙ take_all (length buf) x (omega arith)) ∙ sym (take_all (length (set buf n b)) (x ++ (b ∷ [])) (omega arith));
-        }
-
-pub stores_full : (b n : ℕ) (buf : List ℕ) → length buf ≤ n → Stores b n buf n buf
-stores_full b n buf h = record {
-  more = λ x s. let l = length-append x (b ∷ []) in let c = s.count in record {
-    count = omega arith;
-    same = s.same ∙ sym (take-append-le (length buf) x (b ∷ []) (omega arith));
-  };
-}
+pub grows_many : (b : ℕ) (f : Field) → 2 ≤ digit_count f → Grows b f NoNumber
+grows_many b f h = record { more = λ l s. record { digits = sym (figures_many l b (omega (arith, s.digits))); whole = λ k. absurd (omega arith) } }
 
 -- one byte, of the tabs
-pub counts_other : (b tabs : ℕ) → (b ≡ TAB → ⊥) → Counts b tabs tabs
+pub counts_other : (b : ℕ) (tabs : Tabs) → (b ≡ TAB → ⊥) → Counts b tabs tabs
 counts_other b tabs d = record { more = λ m e. omega (arith, count_other TAB b d) }
 
-pub counts_first : (b tabs : ℕ) → b ≡ TAB → tabs ≡ 0 → Counts b tabs 1
-counts_first b tabs e z = record { more = λ m h. omega (arith, count_one TAB b e) }
+pub counts_first : (b : ℕ) → b ≡ TAB → Counts b NoTab OneTab
+counts_first b e = record { more = λ m h. omega (arith, count_one TAB b e) }
 
-pub counts_more : (b tabs : ℕ) → b ≡ TAB → (tabs ≡ 0 → ⊥) → Counts b tabs 2
+pub counts_more : (b : ℕ) (tabs : Tabs) → b ≡ TAB → 0 < tab_count tabs → Counts b tabs TooMany
 counts_more b tabs e d = record { more = λ m h. omega (arith, count_one TAB b e) }
 
 -- the state of an input whose line is known
-held : (input line : List ℕ) (s : State) (buf : List ℕ) → line ≡ line_of input → s.ended ≡ ltb 0 (count END input) → s.tabs ≡ min 2 (count TAB line)
+held : (input line : List ℕ) (s : State) (buf : List ℕ) → line ≡ line_of input → s.ended ≡ ltb 0 (count END input) → tab_count s.tabs ≡ min 2 (count TAB line)
     → Shown (until TAB line) s.field → Stored (past TAB line) s.length buf → Taken input s buf
 held input line s buf e d t f r = record {
   ended = d;
@@ -116,11 +99,11 @@ module _ (b : ℕ) (s : State) (buf : List ℕ) where
           h.tabs h.field h.row;
     }
 
-    module _ (inside : b ≡ END → ⊥) (k : ℕ) (tabs : Counts b s.tabs k) where
+    module _ (inside : b ≡ END → ⊥) (k : Tabs) (tabs : Counts b s.tabs k) where
       -- a byte of the line: what is left to show of the field and the row
-      byte : (f : Figures) (n : ℕ) (new : List ℕ)
-          → ((l : List ℕ) → s.tabs ≡ min 2 (count TAB l) → Shown (until TAB l) s.field → Shown (until TAB (l ++ (b ∷ []))) f)
-          → ((l : List ℕ) → s.tabs ≡ min 2 (count TAB l) → Stored (past TAB l) s.length buf → Stored (past TAB (l ++ (b ∷ []))) n new)
+      byte : (f : Field) (n : ℕ) (new : List ℕ)
+          → ((l : List ℕ) → tab_count s.tabs ≡ min 2 (count TAB l) → Shown (until TAB l) s.field → Shown (until TAB (l ++ (b ∷ []))) f)
+          → ((l : List ℕ) → tab_count s.tabs ≡ min 2 (count TAB l) → Stored (past TAB l) s.length buf → Stored (past TAB (l ++ (b ∷ []))) n new)
           → Takes (b ∷ []) s buf (record { ended = s.ended; tabs = k; field = f; length = n }) new
       unfolding line_of
       byte f n new p q = record {
@@ -132,14 +115,14 @@ module _ (b : ℕ) (s : State) (buf : List ℕ) where
             (q (line_of input) h.tabs h.row);
       }
 
-      pub takes_row : 0 < s.tabs → (n : ℕ) (new : List ℕ) → Stores b s.length buf n new
+      pub takes_row : 0 < tab_count s.tabs → (n : ℕ) (new : List ℕ) → Stores b s.length buf n new
           → Takes (b ∷ []) s buf (record { ended = s.ended; tabs = k; field = s.field; length = n }) new
       takes_row t n new g = byte s.field n new
           (λ l e h. subst (λ (m : List ℕ). Shown m s.field) (sym (until_met TAB l (b ∷ []) (λ z. omega arith))) h)
           (λ l e h. subst (λ (m : List ℕ). Stored m n new) (sym (past_met TAB l (b ∷ []) (λ z. omega arith))) (g.more (past TAB l) h))
 
-      module _ (first : s.tabs ≤ 0) where
-        still : (l : List ℕ) → s.tabs ≡ min 2 (count TAB l) → Stored (past TAB l) s.length buf → Stored (past TAB (l ++ (b ∷ []))) s.length buf
+      module _ (first : tab_count s.tabs ≤ 0) where
+        still : (l : List ℕ) → tab_count s.tabs ≡ min 2 (count TAB l) → Stored (past TAB l) s.length buf → Stored (past TAB (l ++ (b ∷ []))) s.length buf
         still l e h = subst (λ (m : List ℕ). Stored m s.length buf) (sym (past_open TAB l b (omega arith))) h
 
         pub takes_tab : b ≡ TAB → Takes (b ∷ []) s buf (record { ended = s.ended; tabs = k; field = s.field; length = s.length }) buf
@@ -147,7 +130,7 @@ module _ (b : ℕ) (s : State) (buf : List ℕ) where
             (λ l e h. subst (λ (m : List ℕ). Shown m s.field) (sym (until_here TAB l b [] t)) h)
             still
 
-        pub takes_figure : (b ≡ TAB → ⊥) → (g : Figures) → Grows b s.field g → Takes (b ∷ []) s buf (record { ended = s.ended; tabs = k; field = g; length = s.length }) buf
+        pub takes_figure : (b ≡ TAB → ⊥) → (g : Field) → Grows b s.field g → Takes (b ∷ []) s buf (record { ended = s.ended; tabs = k; field = g; length = s.length }) buf
         takes_figure d g grows = byte g s.length buf
             (λ l e h. subst (λ (m : List ℕ). Shown m g) (sym (until_snoc TAB l b (omega arith) d)) (grows.more (until TAB l) h))
             still
@@ -156,42 +139,24 @@ module _ (b : ℕ) (s : State) (buf : List ℕ) where
 none_stored : (buf : List ℕ) → Stored [] 0 buf
 none_stored buf = record { count = omega arith; same = sym (take-nil (length buf)) }
 
-pub starts_none : Starts (record { ended = false; tabs = 0; field = record { digits = 0; tens = 0; ones = 0 }; length = 0 })
+pub starts_none : Starts (record { ended = false; tabs = NoTab; field = Empty; length = 0 })
 unfolding line_of until past count value
 starts_none = record {
   none = λ buf. record {
     ended = refl;
     tabs = refl;
-    field = record { digits = sym figures_nil; whole = λ k. refl; short = λ k. refl; empty = λ k. refl };
+    field = record { digits = sym figures_nil; whole = λ k. refl };
     row = none_stored buf;
   };
 }
 
--- a piece, byte by byte
-pub takes_none : (s : State) (buf : List ℕ) → Takes [] s buf s buf
-takes_none s buf = record { more = λ input h. subst (λ (l : List ℕ). Taken l s buf) (sym (append-nil input)) h }
-
-pub takes_then : {p q : List ℕ} {s t r : State} {old mid new : List ℕ} → Takes p s old t mid → Takes q t mid r new → Takes (p ++ q) s old r new
-takes_then {p} {q} {s} {t} {r} {old} {mid} {new} f g = record {
-  more = λ input h. subst (λ (l : List ℕ). Taken l r new) (append_assoc input p q) (g.more (input ++ p) (f.more input h));
-}
-
-pub takes_more : (piece : List ℕ) (i c : ℕ) (s t r : State) (old mid new : List ℕ) → Takes (take i piece) s old t mid → i < length piece → c ≡ get_or piece i 0
-    → Takes (c ∷ []) t mid r new → Takes (take (i + 1) piece) s old r new
-takes_more piece i c s t r old mid new f h e g =
-    let w : take i piece ++ (c ∷ []) ≡ take (i + 1) piece = rw (e, add-one i) (sym (take-suc piece i 0 h)) in
-    subst (λ (l : List ℕ). Takes l s old r new) w (takes_then f g)
-
-pub takes_all : (piece : List ℕ) (i : ℕ) (s t : State) (old new : List ℕ) → Takes (take i piece) s old t new → length piece ≤ i → Takes piece s old t new
-takes_all piece i s t old new f h = subst (λ (l : List ℕ). Takes l s old t new) (take_all i piece h) f
-
 -- what the line means
 module _ (s : State) where
-  pub tells_good : s.tabs ≡ 1 → 0 < s.field.digits → s.field.digits ≤ 2 → (t o : ℕ) → t ≡ s.field.tens → o ≡ s.field.ones
-      → Tells s (record { number = DONE; a = t * 10 + o; length = s.length })
-  tells_good e p q t o x y = record { means = λ input buf h. good input buf h }
+  pub tells_good : tab_count s.tabs ≡ 1 → 0 < digit_count s.field → digit_count s.field ≤ 2 → (a : ℕ) → a ≡ field_value s.field
+      → Tells s (Ok (record { a = a; length = s.length }))
+  tells_good e p q a x = record { means = λ input buf h. good input buf h }
     where
-      good : (input buf : List ℕ) → Taken input s buf → Means input (record { number = DONE; a = t * 10 + o; length = s.length }) buf
+      good : (input buf : List ℕ) → Taken input s buf → Means input (Ok (record { a = a; length = s.length })) buf
       good input buf h =
           let l = line_of input in
           let d = h.field.digits in
@@ -202,7 +167,7 @@ module _ (s : State) where
             row = subst (λ (w : ℕ × ℕ × List ℕ). Stored w.2 s.length buf) (sym m) h.row;
           }
 
-  bad : ((input buf : List ℕ) → Taken input s buf → meaning (line_of input) ≡ (ALPHABET, 0, [])) → Tells s (record { number = ALPHABET; a = 0; length = 0 })
+  bad : ((input buf : List ℕ) → Taken input s buf → meaning (line_of input) ≡ (ALPHABET, 0, [])) → Tells s (Err Alphabet)
   bad f = record {
     means = λ input buf h.
         let m = f input buf h in
@@ -213,25 +178,25 @@ module _ (s : State) where
         };
   }
 
-  pub tells_tabs : (s.tabs ≡ 1 → ⊥) → Tells s (record { number = ALPHABET; a = 0; length = 0 })
+  pub tells_tabs : (tab_count s.tabs ≡ 1 → ⊥) → Tells s (Err Alphabet)
   tells_tabs d = bad (λ input buf h. meaning_tabs (line_of input) (λ e. d (omega (arith, h.tabs))))
 
-  pub tells_empty : s.field.digits ≤ 0 → Tells s (record { number = ALPHABET; a = 0; length = 0 })
-  tells_empty z = bad (λ input buf h. meaning_field (line_of input) (λ t. omega (arith, h.field.digits, numeral_out (until TAB (line_of input)) t)))
-
-  pub tells_many : 2 < s.field.digits → Tells s (record { number = ALPHABET; a = 0; length = 0 })
-  tells_many z = bad (λ input buf h. meaning_field (line_of input) (λ t. omega (arith, h.field.digits, numeral_out (until TAB (line_of input)) t)))
+  pub tells_field : (0 < digit_count s.field → 2 < digit_count s.field) → Tells s (Err Alphabet)
+  tells_field z = bad (λ input buf h. meaning_field (line_of input) (λ t. omega (arith, z, h.field.digits, numeral_out (until TAB (line_of input)) t)))
 
 -- what one read gave
-pub gave_none : (p : List ℕ) (s r : State) (old new : List ℕ) → length p ≡ 0 → Takes (END ∷ []) s old r new → Takes (gave p) s old r new
+pub gave_none : (p : List ℕ) (s r : State) (old new : List ℕ) (t : Bool) → t ≡ eqb (length p) 0 → t ≡ true → Takes (END ∷ []) s old r new → Takes (gave p) s old r new
 unfolding gave
-gave_none [] s r old new z t = t
-gave_none (b ∷ p) s r old new z t = absurd (omega arith)
+gave_none [] s r old new t e y k = k
+gave_none (b ∷ p) s r old new t e y k = absurd (omega (arith, eqb-true (length (b ∷ p)) 0 (sym e ∙ y)))
 
-pub gave_some : (p : List ℕ) (s r : State) (old new : List ℕ) → (length p ≡ 0 → ⊥) → Takes p s old r new → Takes (gave p) s old r new
+pub gave_some : (p : List ℕ) (s r : State) (old new : List ℕ) (t : Bool) → t ≡ eqb (length p) 0 → t ≡ false → Takes p s old r new → Takes (gave p) s old r new
 unfolding gave
-gave_some [] s r old new d t = absurd (d refl)
-gave_some (b ∷ p) s r old new d t = t
+gave_some [] s r old new t e n k = absurd (eqb-false 0 0 (sym e ∙ n) refl)
+gave_some (b ∷ p) s r old new t e n k = k
+
+-- each way out of the code of one function
+pub ruleset ways = (grows_first, grows_second, grows_other, grows_many, counts_other, counts_first, counts_more, takes_ended, takes_end, takes_row, takes_tab, takes_figure, starts_none, gave_none, gave_some, tells_good, tells_tabs, tells_field)
 
 -- each read takes the line a byte further at least
 gave_long : (p : List ℕ) → 0 < length (gave p)
@@ -245,12 +210,12 @@ still_going input more s r old new h g e =
     let z = ltb-false 0 (count END (input ++ more)) (sym g.ended ∙ e) in
     h.ended ∙ le-ltb 0 (count END input) (omega (arith, count_more END input more))
 
--- for a caller that reads in n turns, of which t are left: before the first, one turn further, with none left, and where the line has ended
+-- for a caller that reads in turns: before the first, one turn further, with as many as are asked for, and where the line has ended
 pub read_start : (s : State) (buf : List ℕ) → Starts s → Read 0 s buf
 read_start s buf h = record { input = []; taken = h.none buf; long = λ e. omega arith }
 
-pub read_more : (n t : ℕ) (s r : State) (old new : List ℕ) → Read (n - t) s old → 0 < t → Reads s old r new → Read (n - (t - 1)) r new
-read_more n t s r old new h w d =
+pub read_more : (k : ℕ) (s r : State) (old new : List ℕ) → Read k s old → Reads s old r new → Read (k + 1) r new
+read_more k s r old new h d =
     let p = gave d.piece in
     let g = d.takes.more h.input h.taken in
     record {
@@ -259,11 +224,11 @@ read_more n t s r old new h w d =
       long = λ e. omega (arith, length-append h.input p, gave_long d.piece, h.long (still_going h.input p s r old new h.taken g e));
     }
 
-pub read_all : (n t : ℕ) (s : State) (buf : List ℕ) → Read (n - t) s buf → t ≤ 0 → Read n s buf
-read_all n t s buf h z = record { input = h.input; taken = h.taken; long = λ e. omega (arith, h.long e) }
+pub read_all : (n k : ℕ) (s : State) (buf : List ℕ) → Read k s buf → n ≤ k → Read n s buf
+read_all n k s buf h z = record { input = h.input; taken = h.taken; long = λ e. omega (arith, h.long e) }
 
 pub read_ended : (k n : ℕ) (s : State) (buf : List ℕ) → Read k s buf → s.ended ≡ true → Read n s buf
 read_ended k n s buf h y = record { input = h.input; taken = h.taken; long = λ e. absurd (not_both y e) }
 
-pub read_within : (k : ℕ) (s : State) (l : Line) (buf : List ℕ) → Read k s buf → Tells s l → l.length ≤ length buf
-read_within k s l buf h t = omega (arith, (t.means h.input buf h.taken).row.count)
+pub read_within : (k : ℕ) (s : State) (r : Result Line Reason) (buf : List ℕ) → Read k s buf → Tells s r → (told_of r).2 ≤ length buf
+read_within k s r buf h t = omega (arith, (t.means h.input buf h.taken).row.count)

@@ -1,9 +1,15 @@
 -- What the state holds of the input taken so far, however it was cut into pieces. Assumes nothing: these are definitions.
-use Rattle.std.specs.Prelude.{◌≡◌, false, cond, List, [], ◌∷◌, ◌++◌, ℕ, ◌+◌, ◌*◌, ◌≤◌, ◌<◌, min, ltb, length, take}
+use Rattle.std.specs.Prelude.{◌≡◌, false, cond, List, [], ◌∷◌, ◌++◌, ℕ, ◌+◌, ◌*◌, ◌≤◌, ◌<◌, min, ltb, length, take, Result, Ok, Err}
 use Rattle.words.specs.Lists.{every}
+use Rattle.words.specs.Numbers.{DONE}
+use Rattle.words.specs.Refusals.{number_of}
 use Rattle.words.specs.Sheet.{value}
+use Rattle.words.specs.declared.Reason.{Reason}
 use Rattle.lines.specs.Line.{TAB, END, until, past, count, line_of, digit, meaning}
-use Rattle.lines.specs.declared.Figures.{Figures}
+use Rattle.lines.specs.declared.Field.{Field}
+use Rattle.lines.specs.declared.Field.TheVariants.{Empty, One, Two, NoNumber}
+use Rattle.lines.specs.declared.Tabs.{Tabs}
+use Rattle.lines.specs.declared.Tabs.TheVariants.{NoTab, OneTab, TooMany}
 use Rattle.lines.specs.declared.State.{State}
 use Rattle.lines.specs.declared.Line.{Line}
 
@@ -11,12 +17,29 @@ use Rattle.lines.specs.declared.Line.{Line}
 unfoldable pub figures : List ℕ → ℕ
 figures l = cond (every digit l) (min 3 (length l)) 3
 
+-- how many digits f has, 3 where it is no number; and the number that they are
+abbrev pub digit_count : Field → ℕ
+digit_count Empty = 0
+digit_count (One _) = 1
+digit_count (Two _ _) = 2
+digit_count NoNumber = 3
+
+abbrev pub field_value : Field → ℕ
+field_value Empty = 0
+field_value (One o) = o
+field_value (Two t o) = 10 * t + o
+field_value NoNumber = 0
+
+-- how many tabs; 2 where there are more
+abbrev pub tab_count : Tabs → ℕ
+tab_count NoTab = 0
+tab_count OneTab = 1
+tab_count TooMany = 2
+
 -- f holds the figures of the field l
-pub record Shown (l : List ℕ) (f : Figures) : Type 0 where
-  pub digits : f.digits ≡ figures l
-  pub whole : f.digits < 3 → value 0 l ≡ 10 * f.tens + f.ones
-  pub short : f.digits < 2 → f.tens ≡ 0
-  pub empty : f.digits < 1 → f.ones ≡ 0
+pub record Shown (l : List ℕ) (f : Field) : Type 0 where
+  pub digits : digit_count f ≡ figures l
+  pub whole : digit_count f < 3 → value 0 l ≡ field_value f
 
 -- the buffer holds the first n cards of the row x: all, or as many as it has room for
 pub record Stored (x : List ℕ) (n : ℕ) (buf : List ℕ) : Type 0 where
@@ -26,7 +49,7 @@ pub record Stored (x : List ℕ) (n : ℕ) (buf : List ℕ) : Type 0 where
 -- s and the buffer are the state behind the input
 pub record Taken (input : List ℕ) (s : State) (buf : List ℕ) : Type 0 where
   pub ended : s.ended ≡ ltb 0 (count END input)
-  pub tabs : s.tabs ≡ min 2 (count TAB (line_of input))
+  pub tabs : tab_count s.tabs ≡ min 2 (count TAB (line_of input))
   pub field : Shown (until TAB (line_of input)) s.field
   pub row : Stored (past TAB (line_of input)) s.length buf
 
@@ -42,10 +65,10 @@ pub record Read (k : ℕ) (s : State) (buf : List ℕ) : Type 0 where
   pub long : s.ended ≡ false → k ≤ length input
 
 -- r is the state of each part one byte further, and of all a piece further
-pub record Counts (b tabs r : ℕ) : Type 0 where
-  pub more : (m : ℕ) → tabs ≡ min 2 m → r ≡ min 2 (m + count TAB (b ∷ []))
+pub record Counts (b : ℕ) (tabs r : Tabs) : Type 0 where
+  pub more : (m : ℕ) → tab_count tabs ≡ min 2 m → tab_count r ≡ min 2 (m + count TAB (b ∷ []))
 
-pub record Grows (b : ℕ) (f r : Figures) : Type 0 where
+pub record Grows (b : ℕ) (f r : Field) : Type 0 where
   pub more : (l : List ℕ) → Shown l f → Shown (l ++ (b ∷ [])) r
 
 pub record Stores (b n : ℕ) (old : List ℕ) (r : ℕ) (new : List ℕ) : Type 0 where
@@ -63,12 +86,17 @@ pub record Reads (s : State) (old : List ℕ) (r : State) (new : List ℕ) : Typ
 pub record Starts (r : State) : Type 0 where
   pub none : (buf : List ℕ) → Taken [] r buf
 
--- l is what the input means: number and A, and how many cards of the row the buffer holds
-pub record Means (input : List ℕ) (l : Line) (buf : List ℕ) : Type 0 where
-  pub number : l.number ≡ (meaning (line_of input)).0
-  pub a : l.a ≡ (meaning (line_of input)).1
-  pub row : Stored (meaning (line_of input)).2 l.length buf
+-- number and A of what a line means, and how many cards of its row are kept; A 0 and none where it is refused
+abbrev pub told_of : Result Line Reason → ℕ × ℕ × ℕ
+told_of (Ok l) = (DONE, l.a, l.length)
+told_of (Err why) = (number_of why, 0, 0)
 
--- l is what every input means that s stands for
-pub record Tells (s : State) (l : Line) : Type 0 where
-  pub means : (input buf : List ℕ) → Taken input s buf → Means input l buf
+-- r is what the input means: number and A, and how many cards of the row the buffer holds
+pub record Means (input : List ℕ) (r : Result Line Reason) (buf : List ℕ) : Type 0 where
+  pub number : (told_of r).0 ≡ (meaning (line_of input)).0
+  pub a : (told_of r).1 ≡ (meaning (line_of input)).1
+  pub row : Stored (meaning (line_of input)).2 (told_of r).2 buf
+
+-- r is what every input means that s stands for
+pub record Tells (s : State) (r : Result Line Reason) : Type 0 where
+  pub means : (input buf : List ℕ) → Taken input s buf → Means input r buf

@@ -1,71 +1,62 @@
 // The line that the sheet program reads, taken in pieces of any size and of any length in all. Of the row as many cards are kept as the lent buffer has
 // room for.
-#![tactic(auto)]
+#![tactic(auto, using(crate::proofs::Pieces::ways))]
 
-ghost use Rattle.std.specs.Prelude.{◌≡◌, [], ◌∷◌, ◌<◌};
-ghost use Rattle.lines.specs.Line.{digit};
+ghost use Rattle.std.specs.Prelude.{◌≡◌, [], ◌∷◌};
 ghost use Rattle.lines.specs.Taking.{gave, Starts, Counts, Grows, Stores, Takes, Tells};
 
-use words::{ALPHABET, DONE};
+use words::Reason;
 
 const TAB: u8 = 9;
 
 const END: u8 = 10;
 
-// An A has at most two digits; a field of three, or of another byte, is none.
-const DIGITS: u8 = 2;
-
-const NO_NUMBER: u8 = 3;
-
-// More tabs are not counted: two are too many already.
-const MANY: u8 = 2;
-
+// The tabs of the line. More are not counted: two are too many already.
 #[derive(Clone, Copy)]
-pub struct Figures {
-    pub digits: u8,
-    pub tens: u8,
-    pub ones: u8,
+pub enum Tabs {
+    NoTab,
+    OneTab,
+    TooMany,
 }
 
+// The field before the tab. An A has at most two digits; a field of three, or of another byte, is none.
+#[derive(Clone, Copy)]
+pub enum Field {
+    Empty,
+    One(u8),
+    Two { tens: u8, ones: u8 },
+    NoNumber,
+}
+
+// The state behind some bytes of the line.
+// Stays: `taken` and `after_read` are lent the row beside the state, and may not change that; so how much of the row is kept stands here, as a length.
 #[derive(Clone, Copy)]
 pub struct State {
     pub ended: bool,
-    pub tabs: u8,
-    pub field: Figures,
+    pub tabs: Tabs,
+    pub field: Field,
     pub length: usize,
 }
 
-// What the line means: 0, A and how many cards of the row the buffer holds; or 1.
+// What a good line means: A, and how many cards of the row the buffer holds.
 #[derive(Clone, Copy)]
 pub struct Line {
-    pub number: u8,
     pub a: usize,
     pub length: usize,
 }
 
-fn is_digit(b: u8) -> bool
-    ensures { result ≡ digit b }
-{
-    if b < b'0' { false } else { b <= b'9' }
-}
-
 // One more byte of the field before the tab.
-fn figure(f: Figures, b: u8) -> Figures
+fn figure(f: Field, b: u8) -> Field
     ensures { Grows b f result }
 {
-    if f.digits < DIGITS {
-        if is_digit(b) {
-            return Figures {
-                digits: f.digits + 1,
-                tens: f.ones,
-                ones: b - b'0',
-            };
-        }
+    if !b.is_ascii_digit() {
+        return Field::NoNumber;
     }
-    Figures {
-        digits: NO_NUMBER,
-        tens: f.tens,
-        ones: f.ones,
+    let ones = b - b'0';
+    match f {
+        Field::Empty => Field::One(ones),
+        Field::One(tens) => Field::Two { tens, ones },
+        Field::Two { .. } | Field::NoNumber => Field::NoNumber,
     }
 }
 
@@ -81,15 +72,15 @@ fn store(row: &mut [u8], n: usize, b: u8) -> usize
 }
 
 // The tabs with one more byte.
-fn count_tab(tabs: u8, b: u8) -> u8
+fn count_tab(tabs: Tabs, b: u8) -> Tabs
     ensures { Counts b tabs result }
 {
     if b != TAB {
-        tabs
-    } else if tabs == 0 {
-        1
-    } else {
-        MANY
+        return tabs;
+    }
+    match tabs {
+        Tabs::NoTab => Tabs::OneTab,
+        Tabs::OneTab | Tabs::TooMany => Tabs::TooMany,
     }
 }
 
@@ -97,26 +88,26 @@ fn count_tab(tabs: u8, b: u8) -> u8
 fn step(s: State, row: &mut [u8], b: u8) -> State
     ensures { Takes (b ∷ []) s row.old result row.new }
 {
-    let f = s.field;
-    let mut t = s;
     if s.ended {
-        return t;
+        return s;
     }
     if b == END {
-        t.ended = true;
-        return t;
+        return State { ended: true, ..s };
     }
-    t.tabs = count_tab(s.tabs, b);
-    if 0 < s.tabs {
-        t.length = store(row, s.length, b);
-        return t;
+    let tabs = count_tab(s.tabs, b);
+    match s.tabs {
+        Tabs::NoTab if b == TAB => State { tabs, ..s },
+        Tabs::NoTab => State {
+            tabs,
+            field: figure(s.field, b),
+            ..s
+        },
+        Tabs::OneTab | Tabs::TooMany => State {
+            tabs,
+            length: store(row, s.length, b),
+            ..s
+        },
     }
-    if b == TAB {
-        return t;
-    }
-    let g = figure(f, b);
-    t.field = g;
-    t
 }
 
 // The state before the first byte.
@@ -125,64 +116,46 @@ pub fn start() -> State
 {
     State {
         ended: false,
-        tabs: 0,
-        field: Figures {
-            digits: 0,
-            tens: 0,
-            ones: 0,
-        },
+        tabs: Tabs::NoTab,
+        field: Field::Empty,
         length: 0,
     }
 }
 
 // The state behind one piece more; what stands behind byte 10 changes nothing.
-pub fn taken(s: State, row: &mut [u8], piece: &[u8]) -> State
+pub fn taken(mut s: State, row: &mut [u8], piece: &[u8]) -> State
     ensures { Takes piece.now s row.old result row.new }
 {
-    let mut t = s;
-    let mut i = 0;
-    while i < piece.len() {
-        t = step(t, row, piece[i]);
-        i += 1;
+    for &byte in piece {
+        s = step(s, row, byte);
     }
-    t
+    s
 }
 
 // The state behind what one read gave. One that gave nothing is at the end of input, which ends the line as byte 10 does.
 pub fn after_read(s: State, row: &mut [u8], piece: &[u8]) -> State
     ensures { Takes (gave piece.now) s row.old result row.new }
 {
-    if piece.len() == 0 {
+    if piece.is_empty() {
         return taken(s, row, b"\n");
     }
     taken(s, row, piece)
 }
 
-fn wide(x: u8) -> usize
-    ensures { (result ≡ x) × (result < 256) }
-{
-    x as usize
-}
-
 // What the line means that was taken.
-pub fn meaning(s: State) -> Line
+pub fn meaning(s: State) -> Result<Line, Reason>
     ensures { Tells s result }
 {
-    let f = s.field;
-    if s.tabs == 1 {
-        if 0 < f.digits {
-            if f.digits <= DIGITS {
-                return Line {
-                    number: DONE,
-                    a: wide(f.tens) * 10 + wide(f.ones),
-                    length: s.length,
-                };
-            }
-        }
-    }
-    Line {
-        number: ALPHABET,
-        a: 0,
-        length: 0,
-    }
+    let Tabs::OneTab = s.tabs else {
+        return Err(Reason::Alphabet);
+    };
+    let a = match s.field {
+        Field::One(ones) => usize::from(ones),
+        Field::Two { tens, ones } => usize::from(tens) * 10 + usize::from(ones),
+        Field::Empty | Field::NoNumber => return Err(Reason::Alphabet),
+    };
+    Ok(Line {
+        a,
+        length: s.length,
+    })
 }

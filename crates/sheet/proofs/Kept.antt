@@ -9,13 +9,15 @@ use lib.ListN.{length, take, drop, length-take, length-append}
 use lib.Seq.{take_all, length-take-le}
 use borrow.Author.Tests.{eq-eqb, ne_eqb, leb-true, leb-false}
 use Rattle.words.specs.Numbers.{DONE, LONG, ROOM, limit, alphabet, cards, unless, refusal, sizes, rowed}
+use Rattle.std.specs.Prelude.{Result, Ok}
+use Rattle.words.specs.declared.Reason.{Reason}
 use Rattle.words.specs.Outcomes.{given, kept, sheet_outcome}
 use Rattle.words.specs.Sheet.{sheet}
 use Rattle.words.proofs.Lists.{which, either, same?}
 use Rattle.words.proofs.Checks.{cleared, long_over, refusal_stop, sizes_clear}
 use Rattle.corridor.proofs.Entries.{sheet_refused}
 use Rattle.lines.specs.Line.{line_of, meaning}
-use Rattle.lines.specs.Taking.{Read, Tells}
+use Rattle.lines.specs.Taking.{Read, Tells, told_of}
 use Rattle.lines.specs.declared.State.{State}
 use Rattle.lines.specs.declared.Line.{Line}
 use Rattle.lines.proofs.Pieces.{read_within}
@@ -39,22 +41,15 @@ kept_outcome A n x old h = either (which (leb (length x) n))
     (λ t. ap (λ (y : List ℕ). sheet_outcome A y old) (take_all n x (leb-true (length x) n t)))
     (λ f. let l = leb-false (length x) n f in sym (over A (take n x) old (omega (arith, length-take n x))) ∙ over A x old (omega arith))
 
--- the two ways out of `reply`
-module _ (s : State) (l : Line) (row old : List ℕ) (ended : s.ended ≡ true) (tells : Tells s l) where
-  pub answers_line : (l.number ≡ DONE → ⊥) → Answers s row old (l.number, 0, 0, old)
+-- a good line is answered
+module _ (s : State) (row old : List ℕ) (ended : s.ended ≡ true) where
+  pub answers_sheet : (l : Line) → Tells s (Ok l) → limit < length row → (r : ℕ × ℕ × ℕ × List ℕ) → r ≡ sheet_outcome l.a (take l.length row) old → Answers s row old r
   unfolding line_outcome
-  answers_line d = record {
-    ended = ended;
-    told = λ input h. let e = (tells.means input row h).number in rw (ne_eqb (meaning (line_of input)).0 DONE (λ z. d (e ∙ z))) (rw e);
-  }
-
-  pub answers_sheet : l.number ≡ DONE → limit < length row → (r : ℕ × ℕ × ℕ × List ℕ) → r ≡ sheet_outcome l.a (take l.length row) old → Answers s row old r
-  unfolding line_outcome
-  answers_sheet z w r e = record {
+  answers_sheet l tells w r e = record {
     ended = ended;
     told = λ input h.
         let m = tells.means input row h in
-        rw (eq-eqb (meaning (line_of input)).0 DONE (sym m.number ∙ z))
+        rw (eq-eqb (meaning (line_of input)).0 DONE (sym m.number))
         (e ∙ ap (λ (y : List ℕ). sheet_outcome l.a y old) m.row.same ∙ kept_outcome l.a (length row) (meaning (line_of input)).2 old w
         ∙ ap (λ (A : ℕ). sheet_outcome A (meaning (line_of input)).2 old) m.a);
   }
@@ -83,5 +78,5 @@ module _ (s : State) (row old new : List ℕ) (n p k : ℕ) (read : Read 0 s row
   pub answers_part : length (take k new) ≡ k
   answers_part = length-take-le k new answers_within
 
-pub read_part : (s : State) (l : Line) (row : List ℕ) → Read 0 s row → Tells s l → length (take l.length row) ≡ l.length
-read_part s l row h t = length-take-le l.length row (read_within 0 s l row h t)
+pub read_part : (s : State) (r : Result Line Reason) (row : List ℕ) → Read 0 s row → Tells s r → length (take (told_of r).2 row) ≡ (told_of r).2
+read_part s r row h t = length-take-le (told_of r).2 row (read_within 0 s r row h t)

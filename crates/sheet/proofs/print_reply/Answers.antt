@@ -6,5 +6,5 @@ use Rattle.sheet.proofs.print_reply.Goals as goal
 pub slice_bounds-write_all-end : goal.slice_bounds-write_all-end
 slice_bounds-write_all-end g c = search (rules, answers_within)
 
-pub slice_bounds-write_all-end-else-w-ne-DONE : goal.slice_bounds-write_all-end-else-w-ne-DONE
-slice_bounds-write_all-end-else-w-ne-DONE g c = search (rules, answers_part)
+pub slice_bounds-write_all-end-2 : goal.slice_bounds-write_all-end-2
+slice_bounds-write_all-end-2 g c = search (rules, answers_part)
