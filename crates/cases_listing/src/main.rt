@@ -8,15 +8,10 @@ use std::io;
 
 // Every array of the buffer's length over a letters by first and next, a line each, and at the end the last answer and how many there were.
 fn walk(rt: &impl Print, a: usize, e: &mut [u16], most: u64) -> io::Result<()> {
-    let n = e.len();
-    show::word(rt, b"first")?;
-    show::answer(rt, corridor::first(a, n, e))?;
-    show::list(rt, e)?;
-    show::end(rt)?;
-    let mut k: u64 = 1;
-    while k < most {
+    first(rt, b"first", a, e.len(), e)?;
+    for k in 1..most {
         let r = corridor::next(a, e);
-        if r.number != 0 {
+        if r.number != words::DONE {
             show::word(rt, b"end")?;
             show::answer(rt, r)?;
             show::number(rt, k)?;
@@ -26,20 +21,14 @@ fn walk(rt: &impl Print, a: usize, e: &mut [u16], most: u64) -> io::Result<()> {
         show::word(rt, b"next")?;
         show::list(rt, e)?;
         show::end(rt)?;
-        k += 1;
     }
     Ok(())
 }
 
 fn walks(rt: &impl Print) -> io::Result<()> {
-    let mut e = [7u16; 6];
-    walk(rt, 1, &mut e, 100)?;
-    let mut e = [7u16; 6];
-    walk(rt, 2, &mut e, 100)?;
-    let mut e = [7u16; 6];
-    walk(rt, 3, &mut e, 100)?;
-    let mut e = [7u16; 6];
-    walk(rt, 26, &mut e, 100)?;
+    for a in [1, 2, 3, 26] {
+        walk(rt, a, &mut [7u16; 6], 100)?;
+    }
     walk(rt, 5, &mut [], 100)
 }
 
@@ -51,27 +40,22 @@ fn count(rt: &impl Print, label: &[u8], a: usize, n: usize) -> io::Result<()> {
 
 // The ten published counts, each beside what count says.
 fn published(rt: &impl Print) -> io::Result<()> {
-    let mut n = 1;
-    while n <= 10 {
+    for n in 1..=10 {
         show::word(rt, b"published")?;
         show::number(rt, counting::published(n))?;
         show::counted(rt, corridor::count(26, n))?;
         show::end(rt)?;
-        n += 1;
     }
     Ok(())
 }
 
-fn counts_1(rt: &impl Print) -> io::Result<()> {
+fn counts(rt: &impl Print) -> io::Result<()> {
     count(rt, b"P12 A 1", 1, 4)?;
     count(rt, b"P12 A 2", 2, 4)?;
     count(rt, b"P12 A 3", 3, 4)?;
     count(rt, b"n 0", 26, 0)?;
     count(rt, b"n 20, A 26", 26, 20)?;
-    count(rt, b"n 20, A 3", 3, 20)
-}
-
-fn counts_2(rt: &impl Print) -> io::Result<()> {
+    count(rt, b"n 20, A 3", 3, 20)?;
     count(rt, b"n 20, A 2", 2, 20)?;
     count(rt, b"n 20, A 1", 1, 20)?;
     count(rt, b"n 21", 26, 21)?;
@@ -79,49 +63,27 @@ fn counts_2(rt: &impl Print) -> io::Result<()> {
     count(rt, b"A 27", 27, 4)
 }
 
-fn counts(rt: &impl Print) -> io::Result<()> {
-    counts_1(rt)?;
-    counts_2(rt)
-}
-
-// A label, what next answers, and the array that it leaves.
 fn next(rt: &impl Print, label: &[u8], a: usize, e: &mut [u16]) -> io::Result<()> {
-    let r = corridor::next(a, e);
-    show::word(rt, label)?;
-    show::answer(rt, r)?;
-    show::list(rt, e)?;
-    show::end(rt)
+    show::left(rt, label, e, |e| corridor::next(a, e))
 }
 
 fn first(rt: &impl Print, label: &[u8], a: usize, n: usize, out: &mut [u16]) -> io::Result<()> {
-    let r = corridor::first(a, n, out);
-    show::word(rt, label)?;
-    show::answer(rt, r)?;
-    show::list(rt, out)?;
-    show::end(rt)
+    show::left(rt, label, out, |out| corridor::first(a, n, out))
 }
 
-fn steps_1(rt: &impl Print) -> io::Result<()> {
+fn steps(rt: &impl Print) -> io::Result<()> {
     next(rt, b"P13 A 3", 3, &mut [0u16, 0, 0, 1])?;
     next(rt, b"P13 A 2", 2, &mut [0u16, 0, 0, 1])?;
     next(rt, b"P14", 2, &mut [0u16, 1, 2])?;
     next(rt, b"next, A 0", 0, &mut [0u16, 2])?;
     next(rt, b"next, A 27", 27, &mut [0u16, 2])?;
-    next(rt, b"next, 5", 2, &mut [0u16, 2])
-}
-
-fn steps_2(rt: &impl Print) -> io::Result<()> {
+    next(rt, b"next, 5", 2, &mut [0u16, 2])?;
     next(rt, b"next, 7", 1, &mut [0u16, 0])?;
     next(rt, b"next, 6", 3, &mut [0u16, 1, 2, 2])?;
     first(rt, b"first, A 0", 0, 2, &mut [7u16, 7])?;
     first(rt, b"first, 2 for 3", 2, 3, &mut [7u16, 7])?;
     first(rt, b"first, 3 for 2", 2, 2, &mut [7u16, 7, 7])?;
     first(rt, b"first, n 4097", 2, 4097, &mut [7u16, 7])
-}
-
-fn steps(rt: &impl Print) -> io::Result<()> {
-    steps_1(rt)?;
-    steps_2(rt)
 }
 
 fn long_steps(rt: &impl Print, a: usize, e: &mut [u16]) -> io::Result<()> {

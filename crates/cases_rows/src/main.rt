@@ -4,28 +4,8 @@
 
 use std::io;
 
-// A label, what echoes answers, and the buffer that it leaves.
-fn echoes_in(
-    rt: &impl Print,
-    label: &[u8],
-    a: usize,
-    row: &[u8],
-    out: &mut [u16],
-) -> io::Result<()> {
-    let r = corridor::echoes(a, row, out);
-    show::word(rt, label)?;
-    show::answer(rt, r)?;
-    show::list(rt, out)?;
-    show::end(rt)
-}
-
-// The same with a buffer of so many sevens.
 fn echoes(rt: &impl Print, label: &[u8], a: usize, row: &[u8], sevens: usize) -> io::Result<()> {
-    let mut out = [7u16; 4097];
-    if sevens <= 4097 {
-        echoes_in(rt, label, a, row, &mut out[..sevens])?;
-    }
-    Ok(())
+    show::left_of_sevens(rt, label, sevens, |out| corridor::echoes(a, row, out))
 }
 
 fn looks(rt: &impl Print, label: &[u8], a: usize, row: &[u8]) -> io::Result<()> {
@@ -48,68 +28,45 @@ fn joining(rt: &impl Print, left: &[u8], right: &[u8]) -> io::Result<()> {
 
 // The card of place i of the ruler abacabad..: a for an odd place, b for twice an odd one, and so on.
 fn ruler(i: u32) -> u8 {
-    97 + (u32::trailing_zeros(i) % 26) as u8
+    b'a' + (i.trailing_zeros() % 26) as u8
 }
 
 fn lay_ruler(row: &mut [u8]) {
-    let mut i = 0;
-    while i < row.len() {
-        row[i] = ruler((i % 65536) as u32 + 1);
-        i += 1;
+    for (i, card) in row.iter_mut().enumerate() {
+        *card = ruler((i % 65536) as u32 + 1);
     }
 }
 
-fn given_1(rt: &impl Print) -> io::Result<()> {
+fn given(rt: &impl Print) -> io::Result<()> {
     echoes(rt, b"P1 echoes", 1, b"", 0)?;
     looks(rt, b"P1 looks", 1, b"")?;
     echoes(rt, b"P2 echoes", 1, b"a", 1)?;
     looks(rt, b"P2 looks", 1, b"a")?;
     echoes(rt, b"P3 echoes", 2, b"aab", 3)?;
-    looks(rt, b"P3 looks", 2, b"aab")
-}
-
-fn given_2(rt: &impl Print) -> io::Result<()> {
+    looks(rt, b"P3 looks", 2, b"aab")?;
     echoes(rt, b"P4 echoes", 2, b"abaababaaba", 11)?;
     echoes(rt, b"abb echoes", 3, b"abb", 3)?;
     echoes(rt, b"abc echoes", 3, b"abc", 3)?;
     looks(rt, b"abaab looks", 3, b"abaab")
 }
 
-fn given(rt: &impl Print) -> io::Result<()> {
-    given_1(rt)?;
-    given_2(rt)
-}
-
-fn refused_1(rt: &impl Print) -> io::Result<()> {
+fn refused(rt: &impl Print) -> io::Result<()> {
     let many = [97u8; 4097];
     echoes(rt, b"A 0", 0, b"abc", 3)?;
     echoes(rt, b"A 27", 27, b"abc", 3)?;
     echoes(rt, b"4097 cards", 1, &many, 4097)?;
     echoes(rt, b"4097 cards, A 0, no room", 0, &many, 3)?;
     echoes(rt, b"4097 cards, no room", 1, &many, 3)?;
-    echoes(rt, b"too much room, bad card", 1, b"zz", 3)
-}
-
-fn refused_2(rt: &impl Print) -> io::Result<()> {
+    echoes(rt, b"too much room, bad card", 1, b"zz", 3)?;
     echoes(rt, b"too little room", 2, b"abab", 3)?;
     echoes(rt, b"bad last card", 2, b"abc", 3)?;
     echoes(rt, b"two bad cards", 2, b"zaz", 3)?;
     echoes(rt, b"byte 96", 26, b"a`a", 3)?;
     echoes(rt, b"capital", 26, b"aaA", 3)?;
-    looks(rt, b"A 0 looks", 0, b"abc")
-}
-
-fn refused_3(rt: &impl Print) -> io::Result<()> {
-    let many = [97u8; 4097];
+    looks(rt, b"A 0 looks", 0, b"abc")?;
     looks(rt, b"A 27 looks", 27, b"abc")?;
     looks(rt, b"4097 looks", 1, &many)?;
     looks(rt, b"bad card looks", 2, b"abcz")
-}
-
-fn refused(rt: &impl Print) -> io::Result<()> {
-    refused_1(rt)?;
-    refused_2(rt)?;
-    refused_3(rt)
 }
 
 fn rulers(rt: &impl Print, row: &mut [u8]) -> io::Result<()> {
@@ -135,48 +92,31 @@ fn at_the_limit(rt: &impl Print) -> io::Result<()> {
     rulers(rt, &mut row)
 }
 
-fn strips_1(rt: &impl Print) -> io::Result<()> {
+fn strips(rt: &impl Print) -> io::Result<()> {
     let many = [97u8; 4097];
+    let long = [97u8; 4096];
     closing(rt, b"abaab")?;
     closing(rt, b"aaaa")?;
     closing(rt, b"abc")?;
     closing(rt, b"")?;
     closing(rt, b"-9-")?;
-    closing(rt, &many)
-}
-
-fn strips_2(rt: &impl Print) -> io::Result<()> {
+    closing(rt, &many)?;
     joining(rt, b"xxaba", b"abab")?;
     joining(rt, b"xab", b"ab")?;
     joining(rt, b"ab", b"abc")?;
     joining(rt, b"abaab", b"aabb")?;
     joining(rt, b"abab", b"ab")?;
-    joining(rt, b"aab", b"aab")
-}
-
-fn strips_3(rt: &impl Print) -> io::Result<()> {
-    let many = [97u8; 4097];
+    joining(rt, b"aab", b"aab")?;
     joining(rt, b"abc", b"xyz")?;
     joining(rt, b"", b"abc")?;
     joining(rt, b"abc", b"")?;
     joining(rt, b"a-+", b"-+-+")?;
     joining(rt, &many, b"aa")?;
-    joining(rt, b"aa", &many)
-}
-
-fn strips_4(rt: &impl Print) -> io::Result<()> {
-    let long = [97u8; 4096];
+    joining(rt, b"aa", &many)?;
     closing(rt, &long)?;
     joining(rt, &long, &long)?;
     joining(rt, &long, b"aa")?;
     joining(rt, b"aa", &long)
-}
-
-fn strips(rt: &impl Print) -> io::Result<()> {
-    strips_1(rt)?;
-    strips_2(rt)?;
-    strips_3(rt)?;
-    strips_4(rt)
 }
 
 fn main(rt: HostRuntime) -> io::Result<()> {

@@ -16,52 +16,25 @@ pub fn end(rt: &impl Print) -> io::Result<()> {
 }
 
 pub fn answer(rt: &impl Print, r: corridor::Answer) -> io::Result<()> {
-    number(rt, r.number as u64)?;
-    number(rt, r.place as u64)
+    print!(rt; "\t{}\t{}", r.number, r.place)
 }
 
 pub fn counted(rt: &impl Print, r: corridor::Counted) -> io::Result<()> {
-    number(rt, r.number as u64)?;
-    number(rt, r.place as u64)?;
-    number(rt, r.count)
-}
-
-fn wide(x: u16) -> u64 {
-    x as u64
-}
-
-fn wide_byte(x: u8) -> u64 {
-    x as u64
+    print!(rt; "\t{}\t{}\t{}", r.number, r.place, r.count)
 }
 
 // The word sum, and a sum over all entries with their places.
 fn sum(rt: &impl Print, n: u64) -> io::Result<()> {
-    word(rt, b"\tsum")?;
-    number(rt, n)
+    print!(rt; "\tsum\t{n}")
 }
 
 // Each number times its place, places from 1, summed up: from the end on, each turn takes once more every number met so far. It is the sum modulo 2^64,
 // which none of up to 16 million numbers comes near.
-fn places(l: &[u16]) -> u64 {
+fn places<T: Copy + Into<u64>>(l: &[T]) -> u64 {
     let mut met: u64 = 0;
     let mut total: u64 = 0;
-    let mut i = l.len();
-    while 0 < i {
-        i -= 1;
-        met = met.wrapping_add(wide(l[i]));
-        total = total.wrapping_add(met);
-    }
-    total
-}
-
-// The same of bytes.
-fn byte_places(t: &[u8]) -> u64 {
-    let mut met: u64 = 0;
-    let mut total: u64 = 0;
-    let mut i = t.len();
-    while 0 < i {
-        i -= 1;
-        met = met.wrapping_add(wide_byte(t[i]));
+    for &x in l.iter().rev() {
+        met = met.wrapping_add(x.into());
         total = total.wrapping_add(met);
     }
     total
@@ -69,24 +42,25 @@ fn byte_places(t: &[u8]) -> u64 {
 
 // Each number of the list; a list of over 20 by its last and by the sum of all with their places.
 pub fn list(rt: &impl Print, l: &[u16]) -> io::Result<()> {
-    if 20 < l.len() {
-        number(rt, wide(l[l.len() - 1]))?;
-        return sum(rt, places(l));
+    match l {
+        [.., last] if 20 < l.len() => {
+            number(rt, u64::from(*last))?;
+            sum(rt, places(l))
+        }
+        _ => {
+            for &x in l {
+                number(rt, u64::from(x))?;
+            }
+            Ok(())
+        }
     }
-    let mut i = 0;
-    while i < l.len() {
-        number(rt, wide(l[i]))?;
-        i += 1;
-    }
-    Ok(())
 }
 
 // The bytes of a text; of one of over 100 the last three and the sum of all with their places.
 pub fn text(rt: &impl Print, t: &[u8]) -> io::Result<()> {
     if 100 < t.len() {
-        let from = t.len() - 3;
-        word(rt, &t[from..])?;
-        sum(rt, byte_places(t))
+        word(rt, &t[t.len() - 3..])?;
+        sum(rt, places(t))
     } else {
         word(rt, t)
     }
@@ -94,16 +68,45 @@ pub fn text(rt: &impl Print, t: &[u8]) -> io::Result<()> {
 
 // 0 1 2 .. and so on: the echoes of a row of one letter.
 pub fn rise(e: &mut [u16]) {
-    let mut i = 0;
-    while i < e.len() {
-        e[i] = (i % 65536) as u16;
-        i += 1;
+    for (i, echo) in e.iter_mut().enumerate() {
+        *echo = (i % 65536) as u16;
     }
 }
 
 pub fn set_last(e: &mut [u16], v: u16) {
-    let n = e.len();
-    if 0 < n {
-        e[n - 1] = v;
+    if let Some(last) = e.last_mut() {
+        *last = v;
     }
+}
+
+// A label, what an entry answers, and what it leaves in the numbers that it is lent.
+pub fn left<F: FnOnce(&mut [u16]) -> corridor::Answer>(
+    rt: &impl Print,
+    label: &[u8],
+    out: &mut [u16],
+    entry: F,
+) -> io::Result<()>
+    requires { F.IsAlwaysCallable entry }
+{
+    let r = entry(out);
+    word(rt, label)?;
+    answer(rt, r)?;
+    list(rt, out)?;
+    end(rt)
+}
+
+// The same with a buffer of so many sevens, 4,097 at most.
+pub fn left_of_sevens<F: FnOnce(&mut [u16]) -> corridor::Answer>(
+    rt: &impl Print,
+    label: &[u8],
+    sevens: usize,
+    entry: F,
+) -> io::Result<()>
+    requires { F.IsAlwaysCallable entry }
+{
+    let mut out = [7u16; 4097];
+    if sevens > out.len() {
+        return Ok(());
+    }
+    left(rt, label, &mut out[..sevens], entry)
 }

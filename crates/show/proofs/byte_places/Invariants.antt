@@ -1,9 +1,0 @@
--- `byte_places`. Assumes nothing.
-use Rattle.std.proofs.Common.{◌≤◌, length}
-use Rattle.show.proofs.byte_places.Given as goal
-
-abbrev pub invariant-loop-i : goal.invariant-loop-i
-invariant-loop-i l = l.i ≤ length l.t
-
-abbrev pub decreases-loop-i : goal.decreases-loop-i
-decreases-loop-i l = l.i

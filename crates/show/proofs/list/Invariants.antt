@@ -1,9 +1,0 @@
--- `list`. Assumes nothing.
-use Rattle.std.proofs.Common.{◌-◌, ◌≤◌, length}
-use Rattle.show.proofs.list.Given as goal
-
-abbrev pub invariant-loop-i : goal.invariant-loop-i
-invariant-loop-i g l = l.i ≤ length l.l
-
-abbrev pub decreases-loop-i : goal.decreases-loop-i
-decreases-loop-i g l = length l.l - l.i

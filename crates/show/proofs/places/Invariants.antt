@@ -1,9 +1,0 @@
--- `places`. Assumes nothing.
-use Rattle.std.proofs.Common.{◌≤◌, length}
-use Rattle.show.proofs.places.Given as goal
-
-abbrev pub invariant-loop-i : goal.invariant-loop-i
-invariant-loop-i l = l.i ≤ length l.l
-
-abbrev pub decreases-loop-i : goal.decreases-loop-i
-decreases-loop-i l = l.i
