@@ -15,11 +15,8 @@ use Rattle.words.specs.Sheet.{value}
 use Rattle.words.specs.declared.Reason.{Reason}
 use Rattle.words.specs.declared.Reason.TheVariants.{Alphabet}
 use Rattle.lines.specs.Line.{TAB, END, until, past, count, line_of, digit, meaning}
-use Rattle.lines.specs.Taking.{digit_count, field_value, tab_count, told_of, Shown, Stored, Taken, gave, Read, Starts, Counts, Grows, Stores, Takes, Reads, Means, Tells}
-use Rattle.lines.specs.declared.Field.{Field}
-use Rattle.lines.specs.declared.Field.TheVariants.{Empty, One, Two, NoNumber}
-use Rattle.lines.specs.declared.Tabs.{Tabs}
-use Rattle.lines.specs.declared.Tabs.TheVariants.{NoTab, OneTab, TooMany}
+use Rattle.lines.specs.Taking.{figures, told_of, Shown, Stored, Taken, gave, Read, Starts, Counts, Grows, Stores, Takes, Reads, Means, Tells}
+use Rattle.lines.specs.declared.Figures.{Figures}
 use Rattle.lines.specs.declared.State.{State}
 use Rattle.lines.specs.declared.Line.{Line}
 use Rattle.words.proofs.Lists.{which, either, not_both}
@@ -32,40 +29,49 @@ digit_is : (b : ℕ) → digit b ≡ is_ascii_digit b
 unfolding digit both
 digit_is b = either (which (leb 48 b)) (λ t. rw t) (λ f. rw f)
 
+pub digit_tested : (b : ℕ) (t : Bool) → t ≡ is_ascii_digit b → t ≡ digit b
+digit_tested b t e = e ∙ sym (digit_is b)
+
 -- one byte of the field
-module _ (b : ℕ) (t : Bool) (e : t ≡ is_ascii_digit b) where
-  grows_digit : t ≡ true → (f g : Field) → digit_count f < 2 → digit_count g ≡ digit_count f + 1 → field_value g ≡ 10 * field_value f + (b - 48) → Grows b f g
-  grows_digit y f g h d w = record {
+module _ (b : ℕ) (f : Figures) where
+  pub grows_digit : (t : Bool) → f.digits < 2 → t ≡ digit b → t ≡ true → Grows b f (record { digits = f.digits + 1; tens = f.ones; ones = b - 48 })
+  grows_digit t h e d = record {
     more = λ l s. record {
-      digits = omega (arith, s.digits, figures_digit l b (omega (arith, s.digits)) (digit_is b ∙ sym e ∙ y));
-      whole = λ k. omega (arith, value_snoc 0 l b, s.whole (omega arith));
+      digits = omega (arith, s.digits, figures_digit l b (omega (arith, s.digits)) (sym e ∙ d));
+      whole = λ k. omega (arith, value_snoc 0 l b, s.whole (omega arith), s.short h);
+      short = λ k. s.empty (omega arith);
+      empty = λ k. absurd (omega arith);
     };
   }
 
-  pub grows_first : t ≡ true → (f : Field) → f ≡ Empty → Grows b f (One (b - 48))
-  grows_first y f h = rw h (grows_digit y Empty (One (b - 48)) (omega arith) refl (omega arith))
+  no_number : ((l : List ℕ) → Shown l f → figures (l ++ (b ∷ [])) ≡ 3) → Grows b f (record { digits = 3; tens = f.tens; ones = f.ones })
+  no_number h = record {
+    more = λ l s. record {
+      digits = sym (h l s);
+      whole = λ k. absurd (omega arith);
+      short = λ k. absurd (omega arith);
+      empty = λ k. absurd (omega arith);
+    };
+  }
 
-  pub grows_second : t ≡ true → (f : Field) (o : ℕ) → f ≡ One o → Grows b f (Two o (b - 48))
-  grows_second y f o h = rw h (grows_digit y (One o) (Two o (b - 48)) (omega arith) refl refl)
+  pub grows_other : (t : Bool) → t ≡ digit b → t ≡ false → Grows b f (record { digits = 3; tens = f.tens; ones = f.ones })
+  grows_other t e d = no_number (λ l s. figures_other l b (sym e ∙ d))
 
-  pub grows_other : t ≡ false → (f : Field) → Grows b f NoNumber
-  grows_other n f = record { more = λ l s. record { digits = sym (figures_other l b (digit_is b ∙ sym e ∙ n)); whole = λ k. absurd (omega arith) } }
-
-pub grows_many : (b : ℕ) (f : Field) → 2 ≤ digit_count f → Grows b f NoNumber
-grows_many b f h = record { more = λ l s. record { digits = sym (figures_many l b (omega (arith, s.digits))); whole = λ k. absurd (omega arith) } }
+  pub grows_many : 2 ≤ f.digits → Grows b f (record { digits = 3; tens = f.tens; ones = f.ones })
+  grows_many h = no_number (λ l s. figures_many l b (omega (arith, s.digits)))
 
 -- one byte, of the tabs
-pub counts_other : (b : ℕ) (tabs : Tabs) → (b ≡ TAB → ⊥) → Counts b tabs tabs
+pub counts_other : (b tabs : ℕ) → (b ≡ TAB → ⊥) → Counts b tabs tabs
 counts_other b tabs d = record { more = λ m e. omega (arith, count_other TAB b d) }
 
-pub counts_first : (b : ℕ) → b ≡ TAB → Counts b NoTab OneTab
-counts_first b e = record { more = λ m h. omega (arith, count_one TAB b e) }
+pub counts_first : (b tabs : ℕ) → b ≡ TAB → tabs ≡ 0 → Counts b tabs 1
+counts_first b tabs e z = record { more = λ m h. omega (arith, count_one TAB b e) }
 
-pub counts_more : (b : ℕ) (tabs : Tabs) → b ≡ TAB → 0 < tab_count tabs → Counts b tabs TooMany
+pub counts_more : (b tabs : ℕ) → b ≡ TAB → (tabs ≡ 0 → ⊥) → Counts b tabs 2
 counts_more b tabs e d = record { more = λ m h. omega (arith, count_one TAB b e) }
 
 -- the state of an input whose line is known
-held : (input line : List ℕ) (s : State) (buf : List ℕ) → line ≡ line_of input → s.ended ≡ ltb 0 (count END input) → tab_count s.tabs ≡ min 2 (count TAB line)
+held : (input line : List ℕ) (s : State) (buf : List ℕ) → line ≡ line_of input → s.ended ≡ ltb 0 (count END input) → s.tabs ≡ min 2 (count TAB line)
     → Shown (until TAB line) s.field → Stored (past TAB line) s.length buf → Taken input s buf
 held input line s buf e d t f r = record {
   ended = d;
@@ -99,11 +105,11 @@ module _ (b : ℕ) (s : State) (buf : List ℕ) where
           h.tabs h.field h.row;
     }
 
-    module _ (inside : b ≡ END → ⊥) (k : Tabs) (tabs : Counts b s.tabs k) where
+    module _ (inside : b ≡ END → ⊥) (k : ℕ) (tabs : Counts b s.tabs k) where
       -- a byte of the line: what is left to show of the field and the row
-      byte : (f : Field) (n : ℕ) (new : List ℕ)
-          → ((l : List ℕ) → tab_count s.tabs ≡ min 2 (count TAB l) → Shown (until TAB l) s.field → Shown (until TAB (l ++ (b ∷ []))) f)
-          → ((l : List ℕ) → tab_count s.tabs ≡ min 2 (count TAB l) → Stored (past TAB l) s.length buf → Stored (past TAB (l ++ (b ∷ []))) n new)
+      byte : (f : Figures) (n : ℕ) (new : List ℕ)
+          → ((l : List ℕ) → s.tabs ≡ min 2 (count TAB l) → Shown (until TAB l) s.field → Shown (until TAB (l ++ (b ∷ []))) f)
+          → ((l : List ℕ) → s.tabs ≡ min 2 (count TAB l) → Stored (past TAB l) s.length buf → Stored (past TAB (l ++ (b ∷ []))) n new)
           → Takes (b ∷ []) s buf (record { ended = s.ended; tabs = k; field = f; length = n }) new
       unfolding line_of
       byte f n new p q = record {
@@ -115,14 +121,14 @@ module _ (b : ℕ) (s : State) (buf : List ℕ) where
             (q (line_of input) h.tabs h.row);
       }
 
-      pub takes_row : 0 < tab_count s.tabs → (n : ℕ) (new : List ℕ) → Stores b s.length buf n new
+      pub takes_row : 0 < s.tabs → (n : ℕ) (new : List ℕ) → Stores b s.length buf n new
           → Takes (b ∷ []) s buf (record { ended = s.ended; tabs = k; field = s.field; length = n }) new
       takes_row t n new g = byte s.field n new
           (λ l e h. subst (λ (m : List ℕ). Shown m s.field) (sym (until_met TAB l (b ∷ []) (λ z. omega arith))) h)
           (λ l e h. subst (λ (m : List ℕ). Stored m n new) (sym (past_met TAB l (b ∷ []) (λ z. omega arith))) (g.more (past TAB l) h))
 
-      module _ (first : tab_count s.tabs ≤ 0) where
-        still : (l : List ℕ) → tab_count s.tabs ≡ min 2 (count TAB l) → Stored (past TAB l) s.length buf → Stored (past TAB (l ++ (b ∷ []))) s.length buf
+      module _ (first : s.tabs ≤ 0) where
+        still : (l : List ℕ) → s.tabs ≡ min 2 (count TAB l) → Stored (past TAB l) s.length buf → Stored (past TAB (l ++ (b ∷ []))) s.length buf
         still l e h = subst (λ (m : List ℕ). Stored m s.length buf) (sym (past_open TAB l b (omega arith))) h
 
         pub takes_tab : b ≡ TAB → Takes (b ∷ []) s buf (record { ended = s.ended; tabs = k; field = s.field; length = s.length }) buf
@@ -130,7 +136,7 @@ module _ (b : ℕ) (s : State) (buf : List ℕ) where
             (λ l e h. subst (λ (m : List ℕ). Shown m s.field) (sym (until_here TAB l b [] t)) h)
             still
 
-        pub takes_figure : (b ≡ TAB → ⊥) → (g : Field) → Grows b s.field g → Takes (b ∷ []) s buf (record { ended = s.ended; tabs = k; field = g; length = s.length }) buf
+        pub takes_figure : (b ≡ TAB → ⊥) → (g : Figures) → Grows b s.field g → Takes (b ∷ []) s buf (record { ended = s.ended; tabs = k; field = g; length = s.length }) buf
         takes_figure d g grows = byte g s.length buf
             (λ l e h. subst (λ (m : List ℕ). Shown m g) (sym (until_snoc TAB l b (omega arith) d)) (grows.more (until TAB l) h))
             still
@@ -139,20 +145,20 @@ module _ (b : ℕ) (s : State) (buf : List ℕ) where
 none_stored : (buf : List ℕ) → Stored [] 0 buf
 none_stored buf = record { count = omega arith; same = sym (take-nil (length buf)) }
 
-pub starts_none : Starts (record { ended = false; tabs = NoTab; field = Empty; length = 0 })
+pub starts_none : Starts (record { ended = false; tabs = 0; field = record { digits = 0; tens = 0; ones = 0 }; length = 0 })
 unfolding line_of until past count value
 starts_none = record {
   none = λ buf. record {
     ended = refl;
     tabs = refl;
-    field = record { digits = sym figures_nil; whole = λ k. refl };
+    field = record { digits = sym figures_nil; whole = λ k. refl; short = λ k. refl; empty = λ k. refl };
     row = none_stored buf;
   };
 }
 
 -- what the line means
 module _ (s : State) where
-  pub tells_good : tab_count s.tabs ≡ 1 → 0 < digit_count s.field → digit_count s.field ≤ 2 → (a : ℕ) → a ≡ field_value s.field
+  pub tells_good : s.tabs ≡ 1 → 0 < s.field.digits → s.field.digits ≤ 2 → (a : ℕ) → a ≡ 10 * s.field.tens + s.field.ones
       → Tells s (Ok (record { a = a; length = s.length }))
   tells_good e p q a x = record { means = λ input buf h. good input buf h }
     where
@@ -178,10 +184,10 @@ module _ (s : State) where
         };
   }
 
-  pub tells_tabs : (tab_count s.tabs ≡ 1 → ⊥) → Tells s (Err Alphabet)
+  pub tells_tabs : (s.tabs ≡ 1 → ⊥) → Tells s (Err Alphabet)
   tells_tabs d = bad (λ input buf h. meaning_tabs (line_of input) (λ e. d (omega (arith, h.tabs))))
 
-  pub tells_field : (0 < digit_count s.field → 2 < digit_count s.field) → Tells s (Err Alphabet)
+  pub tells_field : (0 < s.field.digits → 2 < s.field.digits) → Tells s (Err Alphabet)
   tells_field z = bad (λ input buf h. meaning_field (line_of input) (λ t. omega (arith, z, h.field.digits, numeral_out (until TAB (line_of input)) t)))
 
 -- what one read gave
@@ -196,7 +202,7 @@ gave_some [] s r old new t e n k = absurd (eqb-false 0 0 (sym e ∙ n) refl)
 gave_some (b ∷ p) s r old new t e n k = k
 
 -- each way out of the code of one function
-pub ruleset ways = (grows_first, grows_second, grows_other, grows_many, counts_other, counts_first, counts_more, takes_ended, takes_end, takes_row, takes_tab, takes_figure, starts_none, gave_none, gave_some, tells_good, tells_tabs, tells_field)
+pub ruleset ways = (digit_tested, grows_digit, grows_other, grows_many, counts_other, counts_first, counts_more, takes_ended, takes_end, takes_row, takes_tab, takes_figure, starts_none, gave_none, gave_some, tells_good, tells_tabs, tells_field)
 
 -- each read takes the line a byte further at least
 gave_long : (p : List ℕ) → 0 < length (gave p)

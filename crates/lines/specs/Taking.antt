@@ -6,10 +6,7 @@ use Rattle.words.specs.Refusals.{number_of}
 use Rattle.words.specs.Sheet.{value}
 use Rattle.words.specs.declared.Reason.{Reason}
 use Rattle.lines.specs.Line.{TAB, END, until, past, count, line_of, digit, meaning}
-use Rattle.lines.specs.declared.Field.{Field}
-use Rattle.lines.specs.declared.Field.TheVariants.{Empty, One, Two, NoNumber}
-use Rattle.lines.specs.declared.Tabs.{Tabs}
-use Rattle.lines.specs.declared.Tabs.TheVariants.{NoTab, OneTab, TooMany}
+use Rattle.lines.specs.declared.Figures.{Figures}
 use Rattle.lines.specs.declared.State.{State}
 use Rattle.lines.specs.declared.Line.{Line}
 
@@ -17,29 +14,12 @@ use Rattle.lines.specs.declared.Line.{Line}
 unfoldable pub figures : List ℕ → ℕ
 figures l = cond (every digit l) (min 3 (length l)) 3
 
--- how many digits f has, 3 where it is no number; and the number that they are
-abbrev pub digit_count : Field → ℕ
-digit_count Empty = 0
-digit_count (One _) = 1
-digit_count (Two _ _) = 2
-digit_count NoNumber = 3
-
-abbrev pub field_value : Field → ℕ
-field_value Empty = 0
-field_value (One o) = o
-field_value (Two t o) = 10 * t + o
-field_value NoNumber = 0
-
--- how many tabs; 2 where there are more
-abbrev pub tab_count : Tabs → ℕ
-tab_count NoTab = 0
-tab_count OneTab = 1
-tab_count TooMany = 2
-
 -- f holds the figures of the field l
-pub record Shown (l : List ℕ) (f : Field) : Type 0 where
-  pub digits : digit_count f ≡ figures l
-  pub whole : digit_count f < 3 → value 0 l ≡ field_value f
+pub record Shown (l : List ℕ) (f : Figures) : Type 0 where
+  pub digits : f.digits ≡ figures l
+  pub whole : f.digits < 3 → value 0 l ≡ 10 * f.tens + f.ones
+  pub short : f.digits < 2 → f.tens ≡ 0
+  pub empty : f.digits < 1 → f.ones ≡ 0
 
 -- the buffer holds the first n cards of the row x: all, or as many as it has room for
 pub record Stored (x : List ℕ) (n : ℕ) (buf : List ℕ) : Type 0 where
@@ -49,7 +29,7 @@ pub record Stored (x : List ℕ) (n : ℕ) (buf : List ℕ) : Type 0 where
 -- s and the buffer are the state behind the input
 pub record Taken (input : List ℕ) (s : State) (buf : List ℕ) : Type 0 where
   pub ended : s.ended ≡ ltb 0 (count END input)
-  pub tabs : tab_count s.tabs ≡ min 2 (count TAB (line_of input))
+  pub tabs : s.tabs ≡ min 2 (count TAB (line_of input))
   pub field : Shown (until TAB (line_of input)) s.field
   pub row : Stored (past TAB (line_of input)) s.length buf
 
@@ -65,10 +45,10 @@ pub record Read (k : ℕ) (s : State) (buf : List ℕ) : Type 0 where
   pub long : s.ended ≡ false → k ≤ length input
 
 -- r is the state of each part one byte further, and of all a piece further
-pub record Counts (b : ℕ) (tabs r : Tabs) : Type 0 where
-  pub more : (m : ℕ) → tab_count tabs ≡ min 2 m → tab_count r ≡ min 2 (m + count TAB (b ∷ []))
+pub record Counts (b tabs r : ℕ) : Type 0 where
+  pub more : (m : ℕ) → tabs ≡ min 2 m → r ≡ min 2 (m + count TAB (b ∷ []))
 
-pub record Grows (b : ℕ) (f r : Field) : Type 0 where
+pub record Grows (b : ℕ) (f r : Figures) : Type 0 where
   pub more : (l : List ℕ) → Shown l f → Shown (l ++ (b ∷ [])) r
 
 pub record Stores (b n : ℕ) (old : List ℕ) (r : ℕ) (new : List ℕ) : Type 0 where

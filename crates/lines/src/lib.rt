@@ -11,21 +11,21 @@ const TAB: u8 = 9;
 
 const END: u8 = 10;
 
-// The tabs of the line. More are not counted: two are too many already.
-#[derive(Clone, Copy)]
-pub enum Tabs {
-    NoTab,
-    OneTab,
-    TooMany,
-}
+// An A has at most two digits; a field of three, or of another byte, is none.
+const DIGITS: u8 = 2;
 
-// The field before the tab. An A has at most two digits; a field of three, or of another byte, is none.
+const NO_NUMBER: u8 = 3;
+
+// More tabs are not counted: two are too many already.
+const MANY: u8 = 2;
+
+// The field before the tab: how many digits it has, and which; where they are NO_NUMBER it is none.
+// Stays: a caller may make a `State` of any numbers, and one of enums would have no value for many of them.
 #[derive(Clone, Copy)]
-pub enum Field {
-    Empty,
-    One(u8),
-    Two { tens: u8, ones: u8 },
-    NoNumber,
+pub struct Figures {
+    pub digits: u8,
+    pub tens: u8,
+    pub ones: u8,
 }
 
 // The state behind some bytes of the line.
@@ -33,8 +33,8 @@ pub enum Field {
 #[derive(Clone, Copy)]
 pub struct State {
     pub ended: bool,
-    pub tabs: Tabs,
-    pub field: Field,
+    pub tabs: u8,
+    pub field: Figures,
     pub length: usize,
 }
 
@@ -46,17 +46,19 @@ pub struct Line {
 }
 
 // One more byte of the field before the tab.
-fn figure(f: Field, b: u8) -> Field
+fn figure(f: Figures, b: u8) -> Figures
     ensures { Grows b f result }
 {
-    if !b.is_ascii_digit() {
-        return Field::NoNumber;
+    if f.digits < DIGITS && b.is_ascii_digit() {
+        return Figures {
+            digits: f.digits + 1,
+            tens: f.ones,
+            ones: b - b'0',
+        };
     }
-    let ones = b - b'0';
-    match f {
-        Field::Empty => Field::One(ones),
-        Field::One(tens) => Field::Two { tens, ones },
-        Field::Two { .. } | Field::NoNumber => Field::NoNumber,
+    Figures {
+        digits: NO_NUMBER,
+        ..f
     }
 }
 
@@ -72,42 +74,37 @@ fn store(row: &mut [u8], n: usize, b: u8) -> usize
 }
 
 // The tabs with one more byte.
-fn count_tab(tabs: Tabs, b: u8) -> Tabs
+fn count_tab(tabs: u8, b: u8) -> u8
     ensures { Counts b tabs result }
 {
     if b != TAB {
         return tabs;
     }
     match tabs {
-        Tabs::NoTab => Tabs::OneTab,
-        Tabs::OneTab | Tabs::TooMany => Tabs::TooMany,
+        0 => 1,
+        _ => MANY,
     }
 }
 
 // The state behind one byte more.
-fn step(s: State, row: &mut [u8], b: u8) -> State
+fn step(mut s: State, row: &mut [u8], b: u8) -> State
     ensures { Takes (b ∷ []) s row.old result row.new }
 {
     if s.ended {
         return s;
     }
     if b == END {
-        return State { ended: true, ..s };
+        s.ended = true;
+        return s;
     }
     let tabs = count_tab(s.tabs, b);
     match s.tabs {
-        Tabs::NoTab if b == TAB => State { tabs, ..s },
-        Tabs::NoTab => State {
-            tabs,
-            field: figure(s.field, b),
-            ..s
-        },
-        Tabs::OneTab | Tabs::TooMany => State {
-            tabs,
-            length: store(row, s.length, b),
-            ..s
-        },
+        0 if b == TAB => {}
+        0 => s.field = figure(s.field, b),
+        _ => s.length = store(row, s.length, b),
     }
+    s.tabs = tabs;
+    s
 }
 
 // The state before the first byte.
@@ -116,8 +113,12 @@ pub fn start() -> State
 {
     State {
         ended: false,
-        tabs: Tabs::NoTab,
-        field: Field::Empty,
+        tabs: 0,
+        field: Figures {
+            digits: 0,
+            tens: 0,
+            ones: 0,
+        },
         length: 0,
     }
 }
@@ -146,16 +147,12 @@ pub fn after_read(s: State, row: &mut [u8], piece: &[u8]) -> State
 pub fn meaning(s: State) -> Result<Line, Reason>
     ensures { Tells s result }
 {
-    let Tabs::OneTab = s.tabs else {
-        return Err(Reason::Alphabet);
-    };
-    let a = match s.field {
-        Field::One(ones) => usize::from(ones),
-        Field::Two { tens, ones } => usize::from(tens) * 10 + usize::from(ones),
-        Field::Empty | Field::NoNumber => return Err(Reason::Alphabet),
-    };
-    Ok(Line {
-        a,
-        length: s.length,
-    })
+    let f = s.field;
+    if s.tabs == 1 && 0 < f.digits && f.digits <= DIGITS {
+        return Ok(Line {
+            a: usize::from(f.tens) * 10 + usize::from(f.ones),
+            length: s.length,
+        });
+    }
+    Err(Reason::Alphabet)
 }
