@@ -49,8 +49,9 @@ fn extend(row: &[u8], e: &[u16], b: usize, c: u8) -> usize
     }
 }
 
-// Writes the echoes of the row.
+// Writes the echoes of the row. It is kept out of its callers, inside which the loop is compiled with more work for each card.
 // Stays: a row and the table lent for it come as two arguments, here and below, since callers hand them in as such.
+#[inline(never)]
 pub fn echoes(row: &[u8], out: &mut [u16])
     requires { (length out.old ≡ length row.now) × (length row.now ≤ limit) }
     ensures { out.new ≡ echoes_of row.now }
