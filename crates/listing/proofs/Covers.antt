@@ -222,14 +222,14 @@ module _ (E : ℕ → ℕ) (i p v : ℕ) (seeks : Seeks E i p v) where
           covers_at : t ≡ cover E p (E i)
           covers_at = covers ∙ ap (cover E p) is
 
-          lower_this : t < rest → Lower E i p v t
+          pub lower_this : t < rest → Lower E i p v t
           lower_this h = let (w, l) = cover_open seeks.sound (E i) echo_in p there_is in record {
             shows = rw covers_at w;
             above = omega (arith, covers_at);
             least = rest_of t (λ q j a g. omega (arith, lower.least q j a g)) (omega (arith, covers_at));
           }
 
-          lower_kept : rest ≤ t → Lower E i p v rest
+          pub lower_kept : rest ≤ t → Lower E i p v rest
           lower_kept h = record { shows = lower.shows; above = lower.above; least = rest_of rest lower.least (omega (arith, covers_at)) }
 
           pub lower_min : (r : ℕ) → r ≡ min t rest → Lower E i p v r

@@ -134,7 +134,7 @@ write_none E [] = refl
 write_none E (a ∷ x) = refl
 
 module _ (A : ℕ) (E : ℕ → ℕ) (n : ℕ) (passes : Passes A E n) where
-  passed : (x : List ℕ) (i : ℕ) → length x ≡ n → i < length x → Passes A E (i + 1)
+  pub passed : (x : List ℕ) (i : ℕ) → length x ≡ n → i < length x → Passes A E (i + 1)
   passed x i g h = passes_part (i + 1) (omega arith) passes
 
   pub write_more : (x : List ℕ) (i c : ℕ) → take i x ≡ rebuilt E i → i < length x → length x ≡ n → c ≡ next_card E (card x) i (E (i + 1)) → take (i + 1) (set x i c) ≡ rebuilt E (i + 1)
